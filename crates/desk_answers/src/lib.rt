@@ -3,10 +3,7 @@
 
 mod answering;
 mod open_desk;
-mod reporting;
 mod serving;
-mod written_requests;
 
 pub use open_desk::OpenDesk;
-pub use reporting::report;
 pub use serving::answer;

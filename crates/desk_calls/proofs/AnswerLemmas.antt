@@ -1,24 +1,26 @@
 -- The step from the result of a desk to the answer.
-use Rattle.std.proofs.Common.{◌≡◌, ◌≢◌, inl, inr, ℕ, List, [], Some, None, Result, Ok, Err, MatchResult, refl, sym, ap, subst}
+use Rattle.std.proofs.Common.{◌≡◌, ◌≢◌, inl, inr, ℕ, List, [], Some, None, Result, Ok, Err, refl, sym, ap, subst}
 use Rattle.desk_bytes.specs.declared.refusal.Refusal.{Refusal}
 use Rattle.desk_bytes.specs.declared.refusal.Refusal.TheVariants as refusals
 use Rattle.desk_texts.specs.declared.command.Command.{Command}
+use Rattle.desk_texts.specs.declared.command.Person.{Person}
 use Rattle.desk_texts.specs.declared.facts.Facts.{Facts}
 use Rattle.desk_texts.specs.declared.reply.Reply.{Reply}
+use Rattle.desk_texts.specs.declared.shown.ShownRequest.{ShownRequest}
 use Rattle.desk_history.specs.Calls.{History}
-use Rattle.desk_history.specs.Impact.{Impact}
-use Rattle.desk_history.specs.ImpactShown.{ShowsImpact}
 use Rattle.desk_history.specs.Runs as runs
 use Rattle.desk_history.specs.declared.answer.Answer as ruling
 use Rattle.desk_history.specs.declared.answer.Answer.TheVariants as ruled
-use Rattle.desk_history.specs.declared.impact.ShownImpact.{ShownImpact}
+use Rattle.desk_exports.specs.Readings.{IsShownTo}
+use Rattle.desk_exports.specs.declared.reading.Reading.{Reading}
+use Rattle.desk_exports.specs.declared.shown.Shown.{Shown}
 use Rattle.http_responses.specs.Refusals.{refused_of}
 use Rattle.http_responses.specs.declared.outage.Outage.TheVariants as outage
 use Rattle.http_responses.specs.declared.refused.Refused.{Refused}
 use Rattle.http_responses.specs.declared.refused.Refused.TheVariants as refused
-use Rattle.desk_calls.specs.Answers.{IsClosed, IsRead, IsReadAndTaken, IsRefusal, IsRuled, IsTaken, Judges, Serves, ShowsImpactOf, call_of}
+use Rattle.desk_calls.specs.Answers.{IsClosed, IsRead, IsReadAndTaken, IsRefusal, IsRuled, IsTaken, Judges, Serves, ShowsAsked, call_of}
 use Rattle.desk_calls.specs.Bodies.{Gives, ReadsFacts, RefusesImage}
-use Rattle.desk_calls.specs.Desks.{IsOutage}
+use Rattle.desk_calls.specs.Desks.{IsOutage, IsShut, is_text_of}
 use Rattle.desk_calls.specs.declared.answers.Answer.{Answer}
 use Rattle.desk_calls.specs.declared.answers.Answer.TheVariants as answer
 use Rattle.desk_calls.proofs.RefusalLemmas.{apart, placeless}
@@ -86,12 +88,16 @@ pub serves_as : {A : Type 0} → (after : History → Type 0) (failed : Type 0) 
     → x ≡ y → Serves after failed cs (due y) a → Serves after failed cs (due x) a
 serves_as after failed cs due x y a e h = subst (λ z. Serves after failed cs (due z) a) (sym e) h
 
--- a shown impact is the answer
-pub serves_impact : (after : History → Type 0) (failed : Type 0) (cs : History) (k : ℕ) (due : Result Impact Refusal) (shown : ShownImpact)
-    → MatchResult due (λ w. ShowsImpact w shown) (λ _. ⊥) → after cs
-    → Serves after failed cs (IsRead cs (ShowsImpactOf k due)) (answer.Impact k shown)
-serves_impact after failed cs k (Ok w) shown given still = inl (cs, ((shown, given, refl), refl), still)
-serves_impact after failed cs k (Err refusal) shown given still = absurd given
+-- what a person is shown is the answer
+pub serves_shown : (after : History → Type 0) (failed : Type 0) (owner : List ℕ) (cs : History) (p : Person) (reading : Reading) (shown : Shown (List ShownRequest))
+    → IsShownTo is_text_of owner cs p reading (Ok shown) → after cs
+    → Serves after failed cs (IsRead cs (ShowsAsked owner cs p reading)) (answer.Shown shown)
+serves_shown after failed owner cs p reading shown due still = inl (cs, ((Ok shown, due, refl), refl), still)
+
+-- or why nothing is shown
+pub told_refusal : (owner : List ℕ) (cs : History) (p : Person) (reading : Reading) (r : Refusal) (a : Answer)
+    → IsShownTo is_text_of owner cs p reading (Err r) → IsRefusal r a → IsRead cs (ShowsAsked owner cs p reading) a cs
+told_refusal owner cs p reading r a due is = ((Err r, due, is), refl)
 
 -- ---- a desk that has failed
 
@@ -120,3 +126,19 @@ closed_image image read x e (inl reads) =
     let refuses : RefusesImage image x = subst (λ r. ReadsFacts image r) e reads in
     inr (inr (λ owner cs. (inr (x, refuses, refl), refl)))
 closed_image image read x e (inr memory) = inr (inl (ap answer.Refused (same_fault read x (refused.Unavailable outage.NoMemory) e memory)))
+
+told_reopen : (r : Refusal) (x : Refused) → refused_of r ≡ Some x → r ≡ refusals.Reopen → x ≡ refused.Unavailable outage.Reopen
+told_reopen r x is e = let h : Some (refused.Unavailable outage.Reopen) ≡ Some x = subst (λ y. refused_of y ≡ Some x) e is in cc
+
+-- what is shown, whatever the history is
+pub shut_shown : (p : Person) (reading : Reading) (shown : Shown (List ShownRequest)) → IsShut p reading (Ok shown)
+    → IsClosed (λ owner cs. IsRead cs (ShowsAsked owner cs p reading)) (answer.Shown shown)
+shut_shown p reading shown (inl reopened) = absurd cc
+shut_shown p reading shown (inr each) = inr (inr (λ owner cs. ((Ok shown, each owner cs, refl), refl)))
+
+-- or why nothing is shown
+pub shut_refusal : (p : Person) (reading : Reading) (r : Refusal) (x : Refused) → refused_of r ≡ Some x → IsShut p reading (Err r)
+    → IsClosed (λ owner cs. IsRead cs (ShowsAsked owner cs p reading)) (answer.Refused x)
+shut_refusal p reading r x is (inl reopened) = let same : r ≡ refusals.Reopen = cc in inl (ap answer.Refused (told_reopen r x is same))
+shut_refusal p reading r x is (inr each) =
+    inr (inr (λ owner cs. ((Err r, each owner cs, record { refused = x; told = placeless r x is; is = refl }), refl)))

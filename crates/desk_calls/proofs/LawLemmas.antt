@@ -4,13 +4,16 @@ use Rattle.desk_texts.specs.declared.command.Command.{Command}
 use Rattle.desk_texts.specs.declared.command.Person.{Person}
 use Rattle.desk_history.specs.Calls.{History}
 use Rattle.desk_history.specs.Runs.{is_accepted}
+use Rattle.desk_history.specs.Shown.{IsGiven}
 use Rattle.desk_history.specs.declared.answer.Answer as ruling
 use Rattle.desk_history.specs.declared.answer.Answer.TheVariants as ruled
 use Rattle.desk_history.proofs.ShownLemmas.{submitters_see_own}
+use Rattle.desk_exports.specs.Readings.{GivesRequest, GivesRequests}
 use Rattle.http_requests.specs.declared.ask.ImageAsked.{ImageAsked}
 use Rattle.http_requests.specs.declared.ask.ImageAsked.TheVariants as asked
 use Rattle.http_responses.specs.declared.refused.Refused.{Refused}
-use Rattle.desk_calls.specs.Answers.{AnswersImage, AnswersTask, IsRuled, IsTaken, ShowsRequest, ShowsRequests}
+use Rattle.desk_calls.specs.Answers.{AnswersImage, AnswersTask, IsRuled, IsTaken}
+use Rattle.desk_calls.specs.Desks.{is_text_of}
 use Rattle.desk_calls.specs.Laws.{RefusalsChangeNothing, SubmittersAreAnsweredByOwn}
 use Rattle.desk_calls.specs.declared.answers.Answer.TheVariants as answer
 use Rattle.desk_calls.specs.declared.call.Task.{Task}
@@ -46,6 +49,6 @@ pub submitters_are_answered_by_own : SubmittersAreAnsweredByOwn
 submitters_are_answered_by_own one other p first second alike =
     let told = submitters_see_own one other p.name first second alike in
     record {
-      each = λ here there k a later h. (subst (λ r. ShowsRequest r a) (told.each k) h.0, refl);
-      all = λ here there a later h. (subst (λ r. ShowsRequests r a) told.all h.0, refl);
+      each = λ here there k a later h. ((h.0.0, subst (λ r. IsGiven r h.0.0 (GivesRequest is_text_of)) (told.each k) h.0.1, h.0.2), refl);
+      all = λ here there a later h. ((h.0.0, subst (λ r. IsGiven r h.0.0 (GivesRequests is_text_of)) told.all h.0.1, h.0.2), refl);
     }

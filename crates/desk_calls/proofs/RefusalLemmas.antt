@@ -5,12 +5,15 @@ use Rattle.desk_bytes.specs.contracts.refusal.Refusal.{the_type}
 use Rattle.desk_bytes.specs.declared.refusal.Refusal.{Refusal}
 use Rattle.desk_bytes.specs.declared.refusal.Refusal.TheVariants as refusals
 use Rattle.desk_history.specs.DecisionRefusals.{may_answer}
+use Rattle.desk_exports.specs.Readings.{hides_impact, hides_proposal, hides_request, lacks_role, may_refuse, turns_away}
+use Rattle.desk_exports.specs.declared.reading.Reading.{Reading}
+use Rattle.desk_exports.specs.declared.reading.Reading.TheVariants as read
 use Rattle.http_responses.specs.Refusals.{place_of, refused_of, refusal_of}
 use Rattle.http_responses.specs.declared.outage.Outage.TheVariants as outage
 use Rattle.http_responses.specs.declared.refused.Refused.{Refused}
 use Rattle.http_responses.specs.declared.refused.Refused.TheVariants as refused
 use Rattle.desk_calls.specs.Bodies.{RefusesAs}
-use Rattle.desk_calls.specs.Desks.{IsImpactRefusal, IsOfficersRefusal, IsOutage, IsProposalRefusal, IsReadingRefusal}
+use Rattle.desk_calls.specs.Desks.{IsOutage, IsReadingRefusal}
 
 -- two refusals are one or differ, by the tags of the enum
 same_or_not : (x y : Refusal) (flag : Bool) → sameb the_type x y ≡ flag → (x ≡ y) ⊎ (x ≢ y)
@@ -32,25 +35,6 @@ not_true h = cc
 
 -- each refusal of the desk's rules has an answer
 pub told_by_rules : (r : Refusal) → IsTrue (may_answer r) → IsSome (refused_of r)
-told_by_rules refusals.Short h = absurd (not_true h)
-told_by_rules refusals.NoMz h = absurd (not_true h)
-told_by_rules refusals.NoPe h = absurd (not_true h)
-told_by_rules refusals.Magic h = absurd (not_true h)
-told_by_rules refusals.NotEfi h = absurd (not_true h)
-told_by_rules refusals.Headers h = absurd (not_true h)
-told_by_rules refusals.Sections h = absurd (not_true h)
-told_by_rules refusals.Overlap h = absurd (not_true h)
-told_by_rules refusals.Table h = absurd (not_true h)
-told_by_rules refusals.Der h = absurd (not_true h)
-told_by_rules refusals.TwoSbat h = absurd (not_true h)
-told_by_rules refusals.SbatRow h = absurd (not_true h)
-told_by_rules refusals.TooLong h = absurd (not_true h)
-told_by_rules refusals.Read h = absurd (not_true h)
-told_by_rules refusals.List h = absurd (not_true h)
-told_by_rules refusals.EntrySize h = absurd (not_true h)
-told_by_rules refusals.Write h = absurd (not_true h)
-told_by_rules refusals.Line h = absurd (not_true h)
-told_by_rules refusals.CsvRow h = absurd (not_true h)
 told_by_rules refusals.UnknownCaller h = refl
 told_by_rules refusals.NotYourRole h = refl
 told_by_rules refusals.KeyReused h = refl
@@ -72,22 +56,7 @@ told_by_rules refusals.NoSuchProposal h = refl
 told_by_rules refusals.OwnProposal h = refl
 told_by_rules refusals.ProposalClosed h = refl
 told_by_rules refusals.NoMemory h = refl
-told_by_rules refusals.Store h = absurd (not_true h)
-told_by_rules refusals.Reopen h = absurd (not_true h)
-told_by_rules refusals.NotADesk h = absurd (not_true h)
-told_by_rules refusals.Version h = absurd (not_true h)
-told_by_rules refusals.File h = absurd (not_true h)
-told_by_rules refusals.Exists h = absurd (not_true h)
-told_by_rules refusals.Minute h = absurd (not_true h)
-told_by_rules refusals.Owner h = absurd (not_true h)
-told_by_rules refusals.BadHead h = absurd (not_true h)
-told_by_rules refusals.BadField h = absurd (not_true h)
-told_by_rules refusals.BadBody h = absurd (not_true h)
-told_by_rules refusals.NoRoute h = absurd (not_true h)
-told_by_rules refusals.BadMethod h = absurd (not_true h)
-told_by_rules refusals.LengthNeeded h = absurd (not_true h)
-told_by_rules refusals.TooLarge h = absurd (not_true h)
-told_by_rules refusals.NotSupported h = absurd (not_true h)
+told_by_rules _ h = absurd (not_true h)
 
 -- an outage has an answer
 pub told_outage : (r : Refusal) → IsOutage r → IsSome (refused_of r)
@@ -95,30 +64,56 @@ told_outage r (inl e) = subst (λ x. IsSome (refused_of x)) (sym e) refl
 told_outage r (inr (inl e)) = subst (λ x. IsSome (refused_of x)) (sym e) refl
 told_outage r (inr (inr e)) = subst (λ x. IsSome (refused_of x)) (sym e) refl
 
--- so has each refusal of a request to read requests or proposals
-pub told_reading : (r : Refusal) → IsReadingRefusal r → IsSome (refused_of r)
-told_reading r (inl e) = subst (λ x. IsSome (refused_of x)) (sym e) refl
-told_reading r (inr (inl e)) = subst (λ x. IsSome (refused_of x)) (sym e) refl
-told_reading r (inr (inr (inl e))) = subst (λ x. IsSome (refused_of x)) (sym e) refl
-told_reading r (inr (inr (inr e))) = told_outage r e
+-- what a reading may be refused for is a refusal of the rules
+role_by_rules : (r : Refusal) → IsTrue (lacks_role r) → IsTrue (may_answer r)
+role_by_rules refusals.NotYourRole h = refl
+role_by_rules _ h = absurd (not_true h)
 
--- and of a request to read one proposal
-pub told_proposal : (r : Refusal) → IsProposalRefusal r → IsSome (refused_of r)
-told_proposal r (inl e) = subst (λ x. IsSome (refused_of x)) (sym e) refl
-told_proposal r (inr (inl e)) = subst (λ x. IsSome (refused_of x)) (sym e) refl
-told_proposal r (inr (inr (inl e))) = subst (λ x. IsSome (refused_of x)) (sym e) refl
-told_proposal r (inr (inr (inr e))) = told_outage r e
+turned_by_rules : (r : Refusal) → IsTrue (turns_away r) → IsTrue (may_answer r)
+turned_by_rules refusals.UnknownCaller h = refl
+turned_by_rules refusals.NotYourRole h = refl
+turned_by_rules _ h = absurd (not_true h)
 
--- and of one that officers alone may give
-pub told_officers : (r : Refusal) → IsOfficersRefusal r → IsSome (refused_of r)
-told_officers r (inl e) = subst (λ x. IsSome (refused_of x)) (sym e) refl
-told_officers r (inr (inl e)) = subst (λ x. IsSome (refused_of x)) (sym e) refl
-told_officers r (inr (inr e)) = told_outage r e
+request_by_rules : (r : Refusal) → IsTrue (hides_request r) → IsTrue (may_answer r)
+request_by_rules refusals.UnknownCaller h = refl
+request_by_rules refusals.NotYourRole h = refl
+request_by_rules refusals.NoSuchRequest h = refl
+request_by_rules _ h = absurd (not_true h)
 
--- and of one to read an impact
-pub told_impact : (r : Refusal) → IsImpactRefusal r → IsSome (refused_of r)
-told_impact r (inl by_rules) = told_by_rules r by_rules
-told_impact r (inr e) = told_outage r e
+proposal_by_rules : (r : Refusal) → IsTrue (hides_proposal r) → IsTrue (may_answer r)
+proposal_by_rules refusals.UnknownCaller h = refl
+proposal_by_rules refusals.NotYourRole h = refl
+proposal_by_rules refusals.NoSuchProposal h = refl
+proposal_by_rules _ h = absurd (not_true h)
+
+impact_by_rules : (r : Refusal) → IsTrue (hides_impact r) → IsTrue (may_answer r)
+impact_by_rules refusals.UnknownCaller h = refl
+impact_by_rules refusals.NotYourRole h = refl
+impact_by_rules refusals.NoSuchProposal h = refl
+impact_by_rules refusals.ProposalClosed h = refl
+impact_by_rules refusals.AlreadyRevoked h = refl
+impact_by_rules refusals.NotHigher h = refl
+impact_by_rules refusals.StampNotLater h = refl
+impact_by_rules refusals.Full h = refl
+impact_by_rules _ h = absurd (not_true h)
+
+due_by_rules : (reading : Reading) (r : Refusal) → IsTrue (may_refuse reading r) → IsTrue (may_answer r)
+due_by_rules read.Requests r h = turned_by_rules r h
+due_by_rules (read.Request k) r h = request_by_rules r h
+due_by_rules read.Proposals r h = turned_by_rules r h
+due_by_rules (read.Proposal k) r h = proposal_by_rules r h
+due_by_rules (read.Impact k) r h = impact_by_rules r h
+due_by_rules read.Dbx r h = absurd (not_true h)
+due_by_rules read.Db r h = absurd (not_true h)
+due_by_rules read.Level r h = absurd (not_true h)
+due_by_rules read.Report r h = role_by_rules r h
+due_by_rules (read.Minutes n) r h = turned_by_rules r h
+due_by_rules read.People r h = turned_by_rules r h
+
+-- so each refusal of a reading has an answer
+pub told_reading : (reading : Reading) (r : Refusal) → IsReadingRefusal reading r → IsSome (refused_of r)
+told_reading reading r (inl due) = told_by_rules r (due_by_rules reading r due)
+told_reading reading r (inr e) = told_outage r e
 
 tells_same : (x y : Refused) → Some x ≡ Some y → RefusesAs (refusal_of x) (place_of x) y
 tells_same x y e = let same : x ≡ y = cc in record { of = ap refusal_of (sym same); at = ap place_of (sym same) }

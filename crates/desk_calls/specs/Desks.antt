@@ -3,9 +3,12 @@ use Rattle.std.specs.Prelude.{◌≡◌, ◌≢◌, ◌⊎◌, ℕ, List, Option
 use Rattle.desk_bytes.specs.declared.refusal.Refusal.{Refusal}
 use Rattle.desk_bytes.specs.declared.refusal.Refusal.TheVariants as refusals
 use Rattle.desk_texts.specs.declared.command.Person.{Person}
+use Rattle.desk_texts.specs.declared.shown.ShownRequest.{ShownRequest}
 use Rattle.desk_history.specs.Calls.{History}
-use Rattle.desk_history.specs.DecisionRefusals.{may_answer}
 use Rattle.desk_history.specs.People.{has_token, people}
+use Rattle.desk_exports.specs.Readings.{IsShownTo, may_refuse}
+use Rattle.desk_exports.specs.declared.reading.Reading.{Reading}
+use Rattle.desk_exports.specs.declared.shown.Shown.{Shown}
 
 -- this holds of each owner and history that a desk shows
 abbrev pub ForEachShown : (List ℕ → History → Type 0) → (List ℕ → History → Type 0) → Type 0
@@ -23,28 +26,28 @@ person_with token cs = find (has_token token) (people cs)
 abbrev pub IsOutage : Refusal → Type 0
 IsOutage refusal = (refusal ≡ refusals.NoMemory) ⊎ ((refusal ≡ refusals.Store) ⊎ (refusal ≡ refusals.Reopen))
 
--- own: the refusals of a read of requests or proposals
-abbrev pub IsReadingRefusal : Refusal → Type 0
-IsReadingRefusal refusal =
-    (refusal ≡ refusals.NotYourRole) ⊎ ((refusal ≡ refusals.UnknownCaller) ⊎ ((refusal ≡ refusals.NoSuchRequest) ⊎ IsOutage refusal))
+-- a list of requests is these
+abbrev pub is_text_of : List ShownRequest → List ShownRequest → Type 0
+is_text_of list shown = list ≡ shown
 
--- own: the refusals of a read of one proposal
-abbrev pub IsProposalRefusal : Refusal → Type 0
-IsProposalRefusal refusal =
-    (refusal ≡ refusals.NotYourRole) ⊎ ((refusal ≡ refusals.UnknownCaller) ⊎ ((refusal ≡ refusals.NoSuchProposal) ⊎ IsOutage refusal))
+-- the refusals of a reading: those that are due, or an outage
+abbrev pub IsReadingRefusal : Reading → Refusal → Type 0
+IsReadingRefusal reading refusal = IsTrue (may_refuse reading refusal) ⊎ IsOutage refusal
 
--- own: the refusals of a read that officers alone may do
-abbrev pub IsOfficersRefusal : Refusal → Type 0
-IsOfficersRefusal refusal = (refusal ≡ refusals.NotYourRole) ⊎ ((refusal ≡ refusals.UnknownCaller) ⊎ IsOutage refusal)
+-- the desk has to be opened again
+abbrev pub IsReopened : {X : Type 0} → Result X Refusal → Type 0
+IsReopened result = result ≡ Err refusals.Reopen
 
--- own: the refusals of a read of an impact: those of an officer's Confirm, or an outage
-abbrev pub IsImpactRefusal : Refusal → Type 0
-IsImpactRefusal refusal = IsTrue (may_answer refusal) ⊎ IsOutage refusal
+-- own: so it has, or the person is told what is due at any history, for example that the person's
+-- role has no report
+abbrev pub IsShut : Person → Reading → Result (Shown (List ShownRequest)) Refusal → Type 0
+IsShut p reading result =
+    IsReopened result ⊎ ((owner : List ℕ) (cs : History) → IsShownTo is_text_of owner cs p reading result)
 
 -- own: a call of a desk, whatever it asks for, and its failures. `shows` says what a desk shows,
 -- `clean` that its disk has returned what was written, `failed` that its store failed, `may_come`
--- which refusals there are
-pub record FailsSafely {D X : Type 0} (shows : D → List ℕ → History → Type 0) (clean failed : D → Type 0) (may_come : Refusal → Type 0) (old new : D) (result : Result X Refusal) : Type 0 where
+-- which refusals there are, `shut` what a desk that had failed may answer
+pub record FailsSafely {D X : Type 0} (shows : D → List ℕ → History → Type 0) (clean failed : D → Type 0) (may_come : Refusal → Type 0) (shut : Result X Refusal → Type 0) (old new : D) (result : Result X Refusal) : Type 0 where
   -- a disk that is clean after the call was clean before
   pub before : clean new → clean old
   pub named : IfErr result may_come
@@ -52,4 +55,4 @@ pub record FailsSafely {D X : Type 0} (shows : D → List ℕ → History → Ty
   pub usable : ForEachShown (shows old) (λ _ _. result ≢ Err refusals.Reopen)
   pub poisons : IsErrOf result refusals.Store → failed new
   -- a desk that had failed doesn't change
-  pub closed : failed old → (result ≡ Err refusals.Reopen) × (new ≡ old)
+  pub closed : failed old → shut result × (new ≡ old)

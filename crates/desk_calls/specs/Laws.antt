@@ -4,7 +4,7 @@ use Rattle.desk_texts.specs.declared.command.Person.{Person}
 use Rattle.desk_texts.specs.declared.role.Role.TheVariants as roles
 use Rattle.desk_history.specs.Calls.{History}
 use Rattle.desk_history.specs.Shown.{own, role_of}
-use Rattle.http_requests.specs.declared.ask.ReadAsked.TheVariants as read
+use Rattle.desk_exports.specs.declared.reading.Reading.TheVariants as read
 use Rattle.http_responses.specs.declared.refused.Refused.{Refused}
 use Rattle.desk_calls.specs.Answers.{AnswersCall, AnswersTask}
 use Rattle.desk_calls.specs.declared.answers.Answer.{Answer}

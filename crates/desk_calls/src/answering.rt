@@ -1,35 +1,20 @@
 //! Desks that answer.
-ghost use Rattle.std.specs.Prelude.{◌≡◌, ◌≢◌, ◌⊎◌, ℕ, List, Err, IfErr, IfOk, IsTrue, MatchResult};
-ghost use Rattle.std.specs.Prelude.{Ok, Some, map};
-ghost use Rattle.desk_exports.specs.Exports.{exported};
-ghost use Rattle.desk_exports.specs.MinutesShown.{minutes_for};
-ghost use Rattle.desk_exports.specs.Reports.{report};
+ghost use Rattle.std.specs.Prelude.{◌≡◌, ◌≢◌, ◌⊎◌, ℕ, List, Err, IfErr, IfOk, IsTrue, Ok, Some};
+ghost use Rattle.desk_exports.specs.Readings.{IsShownTo};
+ghost use Rattle.desk_history.specs.Called.{called};
 ghost use Rattle.desk_history.specs.Calls.{History};
 ghost use Rattle.desk_history.specs.DecisionRefusals.{may_answer};
-ghost use Rattle.desk_history.specs.ImpactShown.{ShowsImpact, impact_for};
-ghost use Rattle.desk_history.specs.PeopleShown.{ShowsPeople, people_for};
-ghost use Rattle.desk_history.specs.ProposalShown.{proposal_for};
 ghost use Rattle.desk_history.specs.Runs.{answer, next, reply_in};
-ghost use Rattle.desk_history.specs.Shown.{AreShown, IsShown, proposals_for, request_for};
-ghost use Rattle.desk_history.specs.Shown.{requests_for, shown_proposal};
 ghost use Rattle.desk_history.specs.Verdicts as verdicts;
 ghost use Rattle.desk_history.specs.declared.answer.Answer.TheVariants as ruled;
-ghost use Rattle.desk_calls.specs.Desks.{FailsSafely, ForEachShown, IsImpactRefusal};
-ghost use Rattle.desk_calls.specs.Desks.{IsOfficersRefusal, IsOutage, IsProposalRefusal};
-ghost use Rattle.desk_calls.specs.Desks.{IsReadingRefusal, StillShows, person_with};
-ghost use Rattle.desk_history.specs.Called.{called};
+ghost use Rattle.desk_calls.specs.Desks.{FailsSafely, ForEachShown, IsOutage, IsReadingRefusal};
+ghost use Rattle.desk_calls.specs.Desks.{IsReopened, IsShut, StillShows, is_text_of, person_with};
 
-use crate::octets::Octets;
-use crate::shown_people::ShownPeople;
-use crate::shown_proposals::ShownProposals;
 use desk_bytes::{Digest, Refusal};
-use desk_exports::Export;
-use desk_history::{ProposalRow, ShownImpact, Verdict};
-use desk_texts::{
-    Caller, Command, Facts, Key, Person, ProposalNumber, Reply, RequestNumber, ShownRequest,
-};
+use desk_exports::{Reading, Shown};
+use desk_history::Verdict;
+use desk_texts::{Caller, Command, Facts, Key, Person, Reply};
 use http_responses::RequestsText;
-use std::alloc::Global;
 
 /// A desk that answers for a history of accepted calls. What its clauses say of the history holds
 /// where the disk has kept its promise until the end of the call.
@@ -52,7 +37,7 @@ pub trait Answering {
             (λ _ cs. person ≡ person_with token.now cs)) }
         ensures same { clean self.new → result ≢ Err Refusal.Store
             → StillShows (shows self.old) (shows self.new) }
-        ensures fails { FailsSafely shows clean failed IsOutage self.old self.new result };
+        ensures fails { FailsSafely shows clean failed IsOutage IsReopened self.old self.new result };
 
     /// Answers the call of a command: an accepted one joins the history. A refusal by the rules
     /// changes nothing.
@@ -67,7 +52,8 @@ pub trait Answering {
         ensures same { clean self.new → IfErr result (λ refusal. refusal ≢ Refusal.Store
             → StillShows (shows self.old) (shows self.new)) }
         ensures fails { FailsSafely shows clean failed
-            (λ refusal. IsTrue (may_answer refusal) ⊎ IsOutage refusal) self.old self.new result };
+            (λ refusal. IsTrue (may_answer refusal) ⊎ IsOutage refusal) IsReopened
+            self.old self.new result };
 
     /// What the desk says of the image.
     fn verdict(&mut self, facts: &Facts) -> Result<Verdict, Refusal>
@@ -75,103 +61,17 @@ pub trait Answering {
             (λ _ cs. said ≡ verdicts.verdict cs facts.now)) }
         ensures same { clean self.new → result ≢ Err Refusal.Store
             → StillShows (shows self.old) (shows self.new) }
-        ensures fails { FailsSafely shows clean failed IsOutage self.old self.new result };
+        ensures fails { FailsSafely shows clean failed IsOutage IsReopened self.old self.new result };
 
-    /// The request of this number, as the caller is shown it.
-    fn request(&mut self, caller: &Caller, number: RequestNumber) -> Result<ShownRequest, Refusal>
+    /// What the person is shown: a read changes nothing. A list of requests is its text.
+    fn read(&mut self, person: Person, reading: Reading) -> Result<Shown<RequestsText>, Refusal>
         ensures given { clean self.new → IfOk result (λ shown. ForEachShown (shows self.old)
-            (λ _ cs. MatchResult (request_for cs caller.now number)
-            (λ w. IsShown w shown) (λ _. ⊥))) }
+            (λ owner cs. IsShownTo is_text_of owner cs person reading (Ok shown))) }
         ensures refused { clean self.new → IfErr result (λ refusal. refusal ≢ Refusal.NoMemory
             → refusal ≢ Refusal.Store → ForEachShown (shows self.old)
-            (λ _ cs. request_for cs caller.now number ≡ Err refusal)) }
+            (λ owner cs. IsShownTo is_text_of owner cs person reading (Err refusal))) }
         ensures same { clean self.new → result ≢ Err Refusal.Store
             → StillShows (shows self.old) (shows self.new) }
-        ensures fails { FailsSafely shows clean failed IsReadingRefusal self.old self.new result };
-
-    /// The requests that the caller is shown, ascending by number.
-    fn requests_of(&mut self, caller: &Caller) -> Result<RequestsText, Refusal>
-        ensures given { clean self.new → IfOk result (λ shown. ForEachShown (shows self.old)
-            (λ _ cs. MatchResult (requests_for cs caller.now)
-            (λ ws. AreShown ws shown) (λ _. ⊥))) }
-        ensures refused { clean self.new → IfErr result (λ refusal. refusal ≢ Refusal.NoMemory
-            → refusal ≢ Refusal.Store → ForEachShown (shows self.old)
-            (λ _ cs. requests_for cs caller.now ≡ Err refusal)) }
-        ensures same { clean self.new → result ≢ Err Refusal.Store
-            → StillShows (shows self.old) (shows self.new) }
-        ensures fails { FailsSafely shows clean failed IsReadingRefusal self.old self.new result };
-
-    /// The proposals, ascending by number, for an officer.
-    fn proposals(&mut self, caller: &Caller) -> Result<ShownProposals, Refusal>
-        ensures given { clean self.new → IfOk result (λ shown. ForEachShown (shows self.old)
-            (λ _ cs. MatchResult (proposals_for cs caller.now)
-            (λ ps. shown ≡ map (shown_proposal cs) ps) (λ _. ⊥))) }
-        ensures refused { clean self.new → IfErr result (λ refusal. refusal ≢ Refusal.NoMemory
-            → refusal ≢ Refusal.Store → ForEachShown (shows self.old)
-            (λ _ cs. proposals_for cs caller.now ≡ Err refusal)) }
-        ensures same { clean self.new → result ≢ Err Refusal.Store
-            → StillShows (shows self.old) (shows self.new) }
-        ensures fails { FailsSafely shows clean failed IsReadingRefusal self.old self.new result };
-
-    /// The proposal of this number with all that it names, for an officer.
-    fn proposal(&mut self, caller: &Caller, number: ProposalNumber) -> Result<ProposalRow, Refusal>
-        ensures given { clean self.new → IfOk result (λ shown. ForEachShown (shows self.old)
-            (λ _ cs. proposal_for cs caller.now number ≡ Ok shown)) }
-        ensures refused { clean self.new → IfErr result (λ refusal. refusal ≢ Refusal.NoMemory
-            → refusal ≢ Refusal.Store → ForEachShown (shows self.old)
-            (λ _ cs. proposal_for cs caller.now number ≡ Err refusal)) }
-        ensures same { clean self.new → result ≢ Err Refusal.Store
-            → StillShows (shows self.old) (shows self.new) }
-        ensures fails { FailsSafely shows clean failed IsProposalRefusal self.old self.new result };
-
-    /// What a Confirm of this proposal by another officer would do, for an officer.
-    fn impact(&mut self, caller: &Caller, number: ProposalNumber) -> Result<ShownImpact, Refusal>
-        ensures given { clean self.new → IfOk result (λ shown. ForEachShown (shows self.old)
-            (λ _ cs. MatchResult (impact_for cs caller.now number)
-            (λ w. ShowsImpact w shown) (λ _. ⊥))) }
-        ensures refused { clean self.new → IfErr result (λ refusal. refusal ≢ Refusal.NoMemory
-            → refusal ≢ Refusal.Store → ForEachShown (shows self.old)
-            (λ _ cs. impact_for cs caller.now number ≡ Err refusal)) }
-        ensures same { clean self.new → result ≢ Err Refusal.Store
-            → StillShows (shows self.old) (shows self.new) }
-        ensures fails { FailsSafely shows clean failed IsImpactRefusal self.old self.new result };
-
-    /// All people, ascending by name, for an officer.
-    fn people(&mut self, caller: &Caller) -> Result<ShownPeople, Refusal>
-        ensures given { clean self.new → IfOk result (λ shown. ForEachShown (shows self.old)
-            (λ _ cs. MatchResult (people_for cs caller.now)
-            (λ ps. ShowsPeople ps shown) (λ _. ⊥))) }
-        ensures refused { clean self.new → IfErr result (λ refusal. refusal ≢ Refusal.NoMemory
-            → refusal ≢ Refusal.Store → ForEachShown (shows self.old)
-            (λ _ cs. people_for cs caller.now ≡ Err refusal)) }
-        ensures same { clean self.new → result ≢ Err Refusal.Store
-            → StillShows (shows self.old) (shows self.new) }
-        ensures fails { FailsSafely shows clean failed IsOfficersRefusal self.old self.new result };
-
-    /// The lines of the minutes from this number on, at most 1,000, for an officer.
-    fn minutes_from(&mut self, caller: &Caller, from: u64) -> Result<Octets, Refusal>
-        ensures given { clean self.new → IfOk result (λ lines. ForEachShown (shows self.old)
-            (λ _ cs. minutes_for cs caller.now from ≡ Ok lines)) }
-        ensures refused { clean self.new → IfErr result (λ refusal. refusal ≢ Refusal.NoMemory
-            → refusal ≢ Refusal.Store → ForEachShown (shows self.old)
-            (λ _ cs. minutes_for cs caller.now from ≡ Err refusal)) }
-        ensures same { clean self.new → result ≢ Err Refusal.Store
-            → StillShows (shows self.old) (shows self.new) }
-        ensures fails { FailsSafely shows clean failed IsOfficersRefusal self.old self.new result };
-
-    /// The bytes of an export.
-    fn export(&mut self, alloc: Global, what: Export) -> Result<Octets, Refusal>
-        ensures given { clean self.new → IfOk result (λ bytes. ForEachShown (shows self.old)
-            (λ owner cs. bytes ≡ exported what owner cs)) }
-        ensures same { clean self.new → result ≢ Err Refusal.Store
-            → StillShows (shows self.old) (shows self.new) }
-        ensures fails { FailsSafely shows clean failed IsOutage self.old self.new result };
-
-    /// The text of the report.
-    fn report(&mut self, alloc: Global) -> Result<Octets, Refusal>
-        ensures given { clean self.new → IfOk result (λ bytes. ForEachShown (shows self.old)
-            (λ _ cs. bytes ≡ report cs)) }
-        ensures same { clean self.new → result ≢ Err Refusal.Store
-            → StillShows (shows self.old) (shows self.new) }
-        ensures fails { FailsSafely shows clean failed IsOutage self.old self.new result };
+        ensures fails { FailsSafely shows clean failed (IsReadingRefusal reading)
+            (IsShut person reading) self.old self.new result };
 }

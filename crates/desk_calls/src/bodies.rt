@@ -3,9 +3,9 @@ ghost use Rattle.std.specs.Prelude.{◌≡◌, ◌≢◌, Err};
 ghost use Rattle.desk_texts.specs.declared.command.Command.TheVariants as command;
 ghost use Rattle.desk_calls.specs.Bodies as spec;
 
-use crate::octets::Octets;
 use crate::refusing::{of_facts, of_import};
 use desk_bytes::tbs;
+use desk_exports::Octets;
 use desk_service::{facts, import_csv, import_dbx, import_level, tbs_is_read, token_digest};
 use desk_texts::{
     Certificate, Command, Facts, LONGEST_CERTIFICATE, RequestNumber, ReturnedFile, Submission,

@@ -1,7 +1,7 @@
 //! Calls of the desk: a person, and a task.
-use crate::octets::Octets;
+use desk_exports::{Octets, Reading};
 use desk_texts::{Command, Key, Person};
-use http_requests::{BytesAsked, ImageAsked, ReadAsked};
+use http_requests::{BytesAsked, ImageAsked};
 use pe_image::Pieces;
 
 /// A call of the desk: the caller, and the task.
@@ -15,7 +15,7 @@ pub struct Call {
 #[derive(Drop)]
 pub enum Task {
     /// Reads this.
-    Read(ReadAsked),
+    Read(Reading),
     /// The request, with its image.
     Image(ImageAsked, Pieces),
     /// A command whose parts are all known.

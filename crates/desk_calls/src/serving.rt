@@ -88,7 +88,7 @@ pub fn answer<D: Answering>(alloc: Global, desk: &mut D, call: Call) -> Answer
 {
     let Call { person, task } = call;
     match task {
-        Task::Read(asked) => show(alloc, desk, person, asked),
+        Task::Read(reading) => show(desk, person, reading),
         Task::Image(asked, image) => answer_image(alloc, desk, person.name, asked, image),
         Task::Command(key, command) => take(desk, person.name, &key, Ok(command)),
         Task::Bytes(key, asked, bytes) => {

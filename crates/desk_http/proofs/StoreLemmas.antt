@@ -17,18 +17,8 @@ use Rattle.desk_http.proofs.SendLemmas.{SendsFor}
 -- only a refusal says so
 answer_of_store : (a : Answer) → refused_of a ≡ Some (refused.Unavailable outage.Store) → a ≡ store_failed
 answer_of_store (answer.Reply reply) is = let bad : ◌≡◌ {A = Option refusing.Refused} None (Some (refused.Unavailable outage.Store)) = is in cc
-answer_of_store (answer.Request shown) is = let bad : ◌≡◌ {A = Option refusing.Refused} None (Some (refused.Unavailable outage.Store)) = is in cc
-answer_of_store (answer.Requests shown) is = let bad : ◌≡◌ {A = Option refusing.Refused} None (Some (refused.Unavailable outage.Store)) = is in cc
-answer_of_store (answer.Proposals shown) is = let bad : ◌≡◌ {A = Option refusing.Refused} None (Some (refused.Unavailable outage.Store)) = is in cc
-answer_of_store (answer.Proposal row) is = let bad : ◌≡◌ {A = Option refusing.Refused} None (Some (refused.Unavailable outage.Store)) = is in cc
-answer_of_store (answer.Impact number shown) is = let bad : ◌≡◌ {A = Option refusing.Refused} None (Some (refused.Unavailable outage.Store)) = is in cc
+answer_of_store (answer.Shown given) is = let bad : ◌≡◌ {A = Option refusing.Refused} None (Some (refused.Unavailable outage.Store)) = is in cc
 answer_of_store (answer.Verdict verdict facts) is = let bad : ◌≡◌ {A = Option refusing.Refused} None (Some (refused.Unavailable outage.Store)) = is in cc
-answer_of_store (answer.Dbx bytes) is = let bad : ◌≡◌ {A = Option refusing.Refused} None (Some (refused.Unavailable outage.Store)) = is in cc
-answer_of_store (answer.Db bytes) is = let bad : ◌≡◌ {A = Option refusing.Refused} None (Some (refused.Unavailable outage.Store)) = is in cc
-answer_of_store (answer.Level text) is = let bad : ◌≡◌ {A = Option refusing.Refused} None (Some (refused.Unavailable outage.Store)) = is in cc
-answer_of_store (answer.Report text) is = let bad : ◌≡◌ {A = Option refusing.Refused} None (Some (refused.Unavailable outage.Store)) = is in cc
-answer_of_store (answer.People shown) is = let bad : ◌≡◌ {A = Option refusing.Refused} None (Some (refused.Unavailable outage.Store)) = is in cc
-answer_of_store (answer.Minutes text) is = let bad : ◌≡◌ {A = Option refusing.Refused} None (Some (refused.Unavailable outage.Store)) = is in cc
 answer_of_store (answer.Refused x) is = let same : Some x ≡ Some (refused.Unavailable outage.Store) = is in cc
 
 memory_apart : no_memory ≡ store_failed → ⊥

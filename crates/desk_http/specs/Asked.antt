@@ -2,6 +2,7 @@
 use Rattle.std.specs.Prelude.{◌≡◌, ◌≢◌, ◌⊎◌, ◌≤◌, ℕ, List, [], length, IfOk, IfSome, Option, Some, None, Result, Ok, Err}
 use Rattle.httparse.specs.Grammar.{RequestHead}
 use Rattle.sha2.specs.Sha256.{sha256}
+use Rattle.desk_exports.specs.declared.reading.Reading.{Reading}
 use Rattle.desk_history.specs.Calls.{History}
 use Rattle.desk_texts.specs.declared.command.Person.{Person}
 use Rattle.http_requests.specs.heads.Fields.{parts_of}
@@ -10,7 +11,6 @@ use Rattle.http_requests.specs.Asked.{read_at, image_at, keyed_at}
 use Rattle.http_requests.specs.Wanted.{Want, wanted_of}
 use Rattle.http_requests.specs.declared.ask.ImageAsked.{ImageAsked}
 use Rattle.http_requests.specs.declared.ask.KeyedAsked.{KeyedAsked}
-use Rattle.http_requests.specs.declared.ask.ReadAsked.{ReadAsked}
 use Rattle.http_requests.specs.declared.fault.AskedFault.{AskedFault}
 use Rattle.http_requests.specs.declared.fault.WantedFault.{WantedFault}
 use Rattle.http_requests.specs.declared.route.PostRoute.TheVariants.{Image, Command}
@@ -40,7 +40,7 @@ abbrev pub call_for : Person → Task → Due
 call_for p task = Ok (record { person = p; task = task })
 
 -- a person's read, by the request's fields
-abbrev pub of_read : Person → Result ReadAsked AskedFault → Due
+abbrev pub of_read : Person → Result Reading AskedFault → Due
 of_read p (Err fault) = Err (refused_by_fields fault)
 of_read p (Ok asked) = call_for p (task.Read asked)
 

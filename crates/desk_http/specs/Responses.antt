@@ -3,6 +3,9 @@ use Rattle.std.specs.Prelude.{ℕ, List, [], Option, Some, None, Vec}
 use Rattle.std.specs.declared.alloc.Global.{Global}
 use Rattle.serde_json.specs.Data.{Data}
 use Rattle.serde_json.specs.Written.{compact_text}
+use Rattle.desk_exports.specs.declared.shown.Shown.{Shown}
+use Rattle.desk_exports.specs.declared.shown.Shown.TheVariants as shown
+use Rattle.desk_texts.specs.declared.shown.ShownRequest.{ShownRequest}
 use Rattle.http_responses.specs.json.Impacts.{impact_data}
 use Rattle.http_responses.specs.json.People.{people_data}
 use Rattle.http_responses.specs.json.Proposals.{proposals_data}
@@ -18,42 +21,36 @@ use Rattle.http_responses.specs.declared.refused.Refused.{Refused as Refusal}
 use Rattle.http_responses.specs.declared.status.Status.{Status}
 use Rattle.http_responses.specs.declared.status.Status.TheVariants as status
 use Rattle.desk_calls.specs.declared.answers.Answer.{Answer}
-use Rattle.desk_calls.specs.declared.answers.Answer.TheVariants.{Reply, Request, Requests, Proposals, Proposal, Impact, Verdict, Dbx, Db, Level, Report, People, Minutes, Refused}
+use Rattle.desk_calls.specs.declared.answers.Answer.TheVariants as answer
 use Rattle.desk_http.specs.declared.served.Answered.{Answered}
 
 -- its status: 200 unless it is a refusal (RFC 9110, section 15.3.1)
 abbrev pub status_of : Answer → Status
-status_of (Reply reply) = status.Ok
-status_of (Request shown) = status.Ok
-status_of (Requests shown) = status.Ok
-status_of (Proposals shown) = status.Ok
-status_of (Proposal row) = status.Ok
-status_of (Impact number shown) = status.Ok
-status_of (Verdict verdict facts) = status.Ok
-status_of (Dbx bytes) = status.Ok
-status_of (Db bytes) = status.Ok
-status_of (Level text) = status.Ok
-status_of (Report text) = status.Ok
-status_of (People shown) = status.Ok
-status_of (Minutes text) = status.Ok
-status_of (Refused refused) = refusals.status_of refused
+status_of (answer.Reply reply) = status.Ok
+status_of (answer.Shown given) = status.Ok
+status_of (answer.Verdict verdict facts) = status.Ok
+status_of (answer.Refused refused) = refusals.status_of refused
+
+-- what is shown has this content
+abbrev pub content_shown : Shown (List ShownRequest) → Content
+content_shown (shown.Requests requests) = content.Json
+content_shown (shown.Request request) = content.Json
+content_shown (shown.Proposals proposals) = content.Json
+content_shown (shown.Proposal row) = content.Json
+content_shown (shown.Impact number impact) = content.Json
+content_shown (shown.Dbx bytes) = content.Bytes
+content_shown (shown.Db bytes) = content.Bytes
+content_shown (shown.Level text) = content.Text
+content_shown (shown.Report text) = content.Text
+content_shown (shown.Minutes text) = content.Text
+content_shown (shown.People people) = content.Json
 
 -- the content of its body
 abbrev pub content_of : Answer → Content
-content_of (Reply reply) = content.Json
-content_of (Request shown) = content.Json
-content_of (Requests shown) = content.Json
-content_of (Proposals shown) = content.Json
-content_of (Proposal row) = content.Json
-content_of (Impact number shown) = content.Json
-content_of (Verdict verdict facts) = content.Json
-content_of (Dbx bytes) = content.Bytes
-content_of (Db bytes) = content.Bytes
-content_of (Level text) = content.Text
-content_of (Report text) = content.Text
-content_of (People shown) = content.Json
-content_of (Minutes text) = content.Text
-content_of (Refused refused) = content.Json
+content_of (answer.Reply reply) = content.Json
+content_of (answer.Shown given) = content_shown given
+content_of (answer.Verdict verdict facts) = content.Json
+content_of (answer.Refused refused) = content.Json
 
 -- the text of a JSON value, if there is one
 abbrev pub text_or_none : Option Data → List ℕ
@@ -65,23 +62,27 @@ abbrev pub items_or_none : Option (Vec ℕ Global) → List ℕ
 items_or_none None = []
 items_or_none (Some text) = text.items
 
+-- what is shown is this body
+abbrev pub body_shown : Shown (List ShownRequest) → List ℕ
+body_shown (shown.Requests requests) = compact_text (requests_data requests)
+body_shown (shown.Request request) = compact_text (request_data request)
+body_shown (shown.Proposals proposals) = compact_text (proposals_data proposals)
+body_shown (shown.Proposal row) = compact_text (whole_proposal_data row)
+body_shown (shown.Impact number impact) = compact_text (impact_data number impact)
+body_shown (shown.Dbx bytes) = bytes
+body_shown (shown.Db bytes) = bytes
+body_shown (shown.Level text) = text
+body_shown (shown.Report text) = text
+body_shown (shown.Minutes text) = text
+body_shown (shown.People people) = compact_text (people_data people)
+
 -- its body. A reply to the console and a verdict on another image have no JSON; no call of a
 -- person's is answered with either, and the body would be empty
 abbrev pub body_of : Answer → List ℕ
-body_of (Reply reply) = text_or_none (reply_data reply)
-body_of (Request shown) = compact_text (request_data shown)
-body_of (Requests shown) = compact_text (requests_data shown)
-body_of (Proposals shown) = compact_text (proposals_data shown)
-body_of (Proposal row) = compact_text (whole_proposal_data row)
-body_of (Impact number shown) = compact_text (impact_data number shown)
-body_of (Verdict verdict facts) = text_or_none (verdict_data facts.components verdict)
-body_of (Dbx bytes) = bytes
-body_of (Db bytes) = bytes
-body_of (Level text) = text
-body_of (Report text) = text
-body_of (People shown) = compact_text (people_data shown)
-body_of (Minutes text) = text
-body_of (Refused refused) = compact_text (refusals.refused_data refused)
+body_of (answer.Reply reply) = text_or_none (reply_data reply)
+body_of (answer.Shown given) = body_shown given
+body_of (answer.Verdict verdict facts) = text_or_none (verdict_data facts.components verdict)
+body_of (answer.Refused refused) = compact_text (refusals.refused_data refused)
 
 -- the whole response
 abbrev pub response_of : Answer → List ℕ
@@ -89,20 +90,10 @@ response_of a = response_text (status_of a) (content_of a) (body_of a)
 
 -- the refusal of the request, if it is refused
 abbrev pub refused_of : Answer → Option Refusal
-refused_of (Reply reply) = None
-refused_of (Request shown) = None
-refused_of (Requests shown) = None
-refused_of (Proposals shown) = None
-refused_of (Proposal row) = None
-refused_of (Impact number shown) = None
-refused_of (Verdict verdict facts) = None
-refused_of (Dbx bytes) = None
-refused_of (Db bytes) = None
-refused_of (Level text) = None
-refused_of (Report text) = None
-refused_of (People shown) = None
-refused_of (Minutes text) = None
-refused_of (Refused refused) = Some refused
+refused_of (answer.Reply reply) = None
+refused_of (answer.Shown given) = None
+refused_of (answer.Verdict verdict facts) = None
+refused_of (answer.Refused refused) = Some refused
 
 -- the outcome in its response: the status, and the refusal of the request
 abbrev pub answered_of : Answer → Answered

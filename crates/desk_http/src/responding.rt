@@ -12,9 +12,11 @@ ghost use Rattle.desk_http.specs.Sending as sending;
 use crate::{Answered, HttpFault, Served};
 use desk_bytes::put;
 use desk_calls::Answer;
+use desk_exports::Shown;
 use http_responses::{
-    Content, Outage, Refused, Status, impact_json, outage_response, people_json, proposal_json,
-    proposals_json, refused_response, reply_json, request_json, response, verdict_json,
+    Content, Outage, Refused, RequestsText, Status, impact_json, outage_response, people_json,
+    proposal_json, proposals_json, refused_response, reply_json, request_json, response,
+    verdict_json,
 };
 use std::alloc::{AllocError, Global};
 use std::io::Write;
@@ -30,32 +32,41 @@ fn json_response(alloc: Global, json: Option<Vec<u8>>) -> Result<Vec<u8>, AllocE
     }
 }
 
-/// The whole response to an answer. The answer's bytes aren't copied. Takes memory.
+/// The whole response with what a person is shown. Its bytes aren't copied. Takes memory.
+fn response_with(alloc: Global, shown: Shown<RequestsText>) -> Result<Vec<u8>, AllocError>
+    ensures { IfOk result (λ bytes. bytes.items ≡ spec.response_of (Answer.Shown shown)) }
+{
+    match shown {
+        Shown::Requests(requests) => json_response(alloc, Some(requests.into_text()?)),
+        Shown::Request(request) => json_response(alloc, Some(request_json(alloc, &request)?)),
+        Shown::Proposals(proposals) => {
+            json_response(alloc, Some(proposals_json(alloc, proposals.as_slice())?))
+        }
+        Shown::Proposal(row) => json_response(alloc, Some(proposal_json(alloc, &row)?)),
+        Shown::Impact(number, impact) => {
+            json_response(alloc, Some(impact_json(alloc, number, &impact)?))
+        }
+        Shown::Dbx(bytes) => response(alloc, Status::Ok, Content::Bytes, bytes.into_vec()),
+        Shown::Db(bytes) => response(alloc, Status::Ok, Content::Bytes, bytes.into_vec()),
+        Shown::Level(text) => response(alloc, Status::Ok, Content::Text, text.into_vec()),
+        Shown::Report(text) => response(alloc, Status::Ok, Content::Text, text.into_vec()),
+        Shown::Minutes(text) => response(alloc, Status::Ok, Content::Text, text.into_vec()),
+        Shown::People(people) => {
+            json_response(alloc, Some(people_json(alloc, people.as_slice())?))
+        }
+    }
+}
+
+/// The whole response to an answer. Takes memory.
 fn response_to(alloc: Global, answer: Answer) -> Result<Vec<u8>, AllocError>
     ensures { IfOk result (λ bytes. bytes.items ≡ spec.response_of answer) }
 {
     match answer {
         Answer::Reply(reply) => json_response(alloc, reply_json(alloc, &reply)?),
-        Answer::Request(shown) => json_response(alloc, Some(request_json(alloc, &shown)?)),
-        Answer::Requests(shown) => json_response(alloc, Some(shown.into_text()?)),
-        Answer::Proposals(shown) => {
-            json_response(alloc, Some(proposals_json(alloc, shown.as_slice())?))
-        }
-        Answer::Proposal(shown) => json_response(alloc, Some(proposal_json(alloc, &shown)?)),
-        Answer::Impact(number, shown) => {
-            json_response(alloc, Some(impact_json(alloc, number, &shown)?))
-        }
+        Answer::Shown(shown) => response_with(alloc, shown),
         Answer::Verdict(verdict, facts) => {
             json_response(alloc, verdict_json(alloc, verdict, &facts)?)
         }
-        Answer::Dbx(bytes) => response(alloc, Status::Ok, Content::Bytes, bytes.into_vec()),
-        Answer::Db(bytes) => response(alloc, Status::Ok, Content::Bytes, bytes.into_vec()),
-        Answer::Level(text) => response(alloc, Status::Ok, Content::Text, text.into_vec()),
-        Answer::Report(text) => response(alloc, Status::Ok, Content::Text, text.into_vec()),
-        Answer::People(shown) => {
-            json_response(alloc, Some(people_json(alloc, shown.as_slice())?))
-        }
-        Answer::Minutes(text) => response(alloc, Status::Ok, Content::Text, text.into_vec()),
         Answer::Refused(refused) => refused_response(alloc, refused),
     }
 }

@@ -26,19 +26,7 @@ impl Answered {
                 status: refused.status(),
                 refused: Some(*refused),
             },
-            Answer::Reply(_)
-            | Answer::Request(_)
-            | Answer::Requests(_)
-            | Answer::Proposals(_)
-            | Answer::Proposal(_)
-            | Answer::Impact(_, _)
-            | Answer::Verdict(_, _)
-            | Answer::Dbx(_)
-            | Answer::Db(_)
-            | Answer::Level(_)
-            | Answer::Report(_)
-            | Answer::People(_)
-            | Answer::Minutes(_) => Answered {
+            Answer::Reply(_) | Answer::Shown(_) | Answer::Verdict(_, _) => Answered {
                 status: Status::Ok,
                 refused: None,
             },

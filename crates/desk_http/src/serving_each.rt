@@ -4,7 +4,8 @@ ghost use Rattle.desk_http.specs.Each.{ServesEach, ServesNext, has_failed};
 
 use crate::serving::serve_one;
 use crate::{Answered, Served};
-use desk_calls::{Answering, Octets};
+use desk_calls::Answering;
+use desk_exports::Octets;
 use http_requests::Routes;
 use http_responses::{Outage, Refused};
 use std::alloc::Global;

@@ -3,7 +3,8 @@ ghost use Rattle.std.specs.Prelude.{◌≡◌, IfErr, IfOk, Some};
 ghost use Rattle.http_requests.specs.bodies.Bodies.{Refuses};
 ghost use Rattle.desk_http.specs.Tasks as spec;
 
-use desk_calls::{Octets, Task};
+use desk_calls::Task;
+use desk_exports::Octets;
 use desk_texts::{Command, Key};
 use http_requests::{
     BodyFault, CommandAsked, JsonAsked, read_digest, read_level, read_review, read_unlist,

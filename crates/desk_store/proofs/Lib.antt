@@ -17,3 +17,6 @@ mod LivingLemmas
 mod RestartLemmas
 mod StreamLemmas
 mod ImpactLemmas
+mod RefusalLemmas
+mod ReadingLemmas
+mod MemoryLemmas

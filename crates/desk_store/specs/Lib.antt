@@ -11,5 +11,4 @@ pub mod Closed
 pub mod Exports
 pub mod Showing
 pub mod Living
-pub mod Officers
 pub mod Impacts

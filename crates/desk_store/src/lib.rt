@@ -16,8 +16,10 @@ mod officer_questions;
 mod officers;
 mod opening;
 mod questions;
+mod reading;
 mod restarting;
 mod showing;
+mod shown_each;
 
 pub use desk::Desk;
 pub use desk_exports::RequestList;

@@ -5,8 +5,9 @@ ghost use Rattle.sqlite.specs.State.{HasCleanDisk};
 ghost use Rattle.desk_exports.specs.MinutesShown.{minutes_for};
 ghost use Rattle.desk_history.specs.PeopleShown.{ShowsPeople, people_for};
 ghost use Rattle.desk_history.specs.ProposalShown.{proposal_for};
+ghost use Rattle.desk_exports.specs.declared.reading.Reading.TheVariants as read;
 ghost use Rattle.desk_store.specs.Desks.{ForEachShown, ReadsDesk};
-ghost use Rattle.desk_store.specs.Officers.{IsOfficersRefusal, IsOneProposalRefusal};
+ghost use Rattle.desk_store.specs.Showing.{IsReadingRefusal};
 
 use crate::desk::Desk;
 use crate::officer_questions::{AllPeople, MinutesFrom, OneProposal};
@@ -34,7 +35,8 @@ impl<S: Alter + Drop> Desk<S> {
             refusal ≢ Refusal.NoMemory → refusal ≢ Refusal.Store
             → ForEachShown S.Store self.old (λ owner cs.
             proposal_for cs caller.now number ≡ Err refusal)) }
-        ensures reads { ReadsDesk S.Store IsOneProposalRefusal self.old self.new result }
+        ensures reads { ReadsDesk S.Store (IsReadingRefusal (read.Proposal number))
+            self.old self.new result }
     {
         if self.needs_reopening {
             return Err(Refusal::Reopen);
@@ -68,7 +70,7 @@ impl<S: Alter + Drop> Desk<S> {
             refusal ≢ Refusal.NoMemory → refusal ≢ Refusal.Store
             → ForEachShown S.Store self.old (λ owner cs.
             people_for cs caller.now ≡ Err refusal)) }
-        ensures reads { ReadsDesk S.Store IsOfficersRefusal self.old self.new result }
+        ensures reads { ReadsDesk S.Store (IsReadingRefusal read.People) self.old self.new result }
     {
         if self.needs_reopening {
             return Err(Refusal::Reopen);
@@ -102,7 +104,8 @@ impl<S: Alter + Drop> Desk<S> {
             refusal ≢ Refusal.NoMemory → refusal ≢ Refusal.Store
             → ForEachShown S.Store self.old (λ owner cs.
             minutes_for cs caller.now number ≡ Err refusal)) }
-        ensures reads { ReadsDesk S.Store IsOfficersRefusal self.old self.new result }
+        ensures reads { ReadsDesk S.Store (IsReadingRefusal (read.Minutes number))
+            self.old self.new result }
     {
         if self.needs_reopening {
             return Err(Refusal::Reopen);

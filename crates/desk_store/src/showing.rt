@@ -5,6 +5,7 @@ ghost use Rattle.sqlite.specs.State.{HasCleanDisk};
 ghost use Rattle.desk_history.specs.Shown.{IsShown, request_for, requests_for};
 ghost use Rattle.desk_history.specs.Shown.{proposals_for, shown_proposal};
 ghost use Rattle.desk_exports.specs.Readings.{HoldsShown};
+ghost use Rattle.desk_exports.specs.declared.reading.Reading.TheVariants as read;
 ghost use Rattle.desk_store.specs.Desks.{ForEachShown, ReadsDesk};
 ghost use Rattle.desk_store.specs.Showing.{IsReadingRefusal};
 
@@ -35,7 +36,8 @@ impl<S: Alter + Drop> Desk<S> {
             refusal ≢ Refusal.NoMemory → refusal ≢ Refusal.Store
             → ForEachShown S.Store self.old (λ owner cs.
             request_for cs caller.now number ≡ Err refusal)) }
-        ensures reads { ReadsDesk S.Store IsReadingRefusal self.old self.new result }
+        ensures reads { ReadsDesk S.Store (IsReadingRefusal (read.Request number))
+            self.old self.new result }
     {
         if self.needs_reopening {
             return Err(Refusal::Reopen);
@@ -69,7 +71,7 @@ impl<S: Alter + Drop> Desk<S> {
             refusal ≢ Refusal.NoMemory → refusal ≢ Refusal.Store
             → ForEachShown S.Store self.old (λ owner cs.
             requests_for cs caller.now ≡ Err refusal)) }
-        ensures reads { ReadsDesk S.Store IsReadingRefusal self.old self.new result }
+        ensures reads { ReadsDesk S.Store (IsReadingRefusal read.Requests) self.old self.new result }
     {
         if self.needs_reopening {
             return Err(Refusal::Reopen);
@@ -103,7 +105,7 @@ impl<S: Alter + Drop> Desk<S> {
             refusal ≢ Refusal.NoMemory → refusal ≢ Refusal.Store
             → ForEachShown S.Store self.old (λ owner cs.
             proposals_for cs caller.now ≡ Err refusal)) }
-        ensures reads { ReadsDesk S.Store IsReadingRefusal self.old self.new result }
+        ensures reads { ReadsDesk S.Store (IsReadingRefusal read.Proposals) self.old self.new result }
     {
         if self.needs_reopening {
             return Err(Refusal::Reopen);

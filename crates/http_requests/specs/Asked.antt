@@ -14,8 +14,8 @@ use Rattle.http_requests.specs.declared.ask.ImageAsked.{ImageAsked}
 use Rattle.http_requests.specs.declared.ask.ImageAsked.TheVariants as image
 use Rattle.http_requests.specs.declared.ask.JsonAsked.TheVariants as json
 use Rattle.http_requests.specs.declared.ask.KeyedAsked.{KeyedAsked}
-use Rattle.http_requests.specs.declared.ask.ReadAsked.{ReadAsked}
-use Rattle.http_requests.specs.declared.ask.ReadAsked.TheVariants as read
+use Rattle.desk_exports.specs.declared.reading.Reading.{Reading}
+use Rattle.desk_exports.specs.declared.reading.Reading.TheVariants as read
 use Rattle.http_requests.specs.declared.route.CommandRoute.{CommandRoute}
 use Rattle.http_requests.specs.declared.route.CommandRoute.TheVariants as route
 use Rattle.http_requests.specs.declared.route.GetRoute.{GetRoute}
@@ -76,7 +76,7 @@ abbrev pub minute_in : Want → Option ℕ
 minute_in w = minute_number w.number
 
 -- the request with the number of a minute
-abbrev pub from_minute : Option ℕ → (ℕ → ReadAsked) → Result ReadAsked AskedFault
+abbrev pub from_minute : Option ℕ → (ℕ → Reading) → Result Reading AskedFault
 from_minute None ask = Err NoRoute
 from_minute (Some number) ask = Ok (ask number)
 
@@ -86,7 +86,7 @@ of_proposal None ask = Err NoSuchProposal
 of_proposal (Some number) ask = Ok (ask number)
 
 -- the request of a GET
-abbrev pub read_at : GetRoute → Want → Result ReadAsked AskedFault
+abbrev pub read_at : GetRoute → Want → Result Reading AskedFault
 read_at get.Requests w = Ok read.Requests
 read_at get.Request w = numbered (number_in w) (λ number. read.Request number)
 read_at get.Proposals w = Ok read.Proposals

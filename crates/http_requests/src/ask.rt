@@ -1,29 +1,7 @@
 //! A request without its body.
 
-use desk_texts::{Command, Key, ProposalNumber, RequestNumber, Title};
+use desk_texts::{Command, Key, RequestNumber, Title};
 use sbat::Stamp;
-
-/// A GET.
-#[derive(Clone, Copy, Debug, PartialEq, Eq)]
-pub enum ReadAsked {
-    /// The requests that the caller is shown.
-    Requests,
-    /// One of the requests.
-    Request(RequestNumber),
-    /// The proposals of officers.
-    Proposals,
-    /// One of the proposals, with all that it names.
-    Proposal(ProposalNumber),
-    /// What a Confirm of this proposal would do.
-    Impact(ProposalNumber),
-    Dbx,
-    Db,
-    Level,
-    Report,
-    /// The lines of the minutes from this number on.
-    Minutes(u64),
-    People,
-}
 
 /// A request with an image. A command has the key under which the caller gives it.
 #[derive(Debug, Drop)]

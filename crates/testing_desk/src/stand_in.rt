@@ -1,17 +1,18 @@
 //! A substitute for a desk, which records its calls and answers everybody the same.
 ghost use Rattle.std.specs.Prelude.{◌≡◌, ◌⊎◌, ⊤, IfSome, IsTrue, true};
 ghost use Rattle.desk_calls.specs.Desks.{IsOutage};
+ghost use Rattle.desk_exports.specs.Readings.{may_refuse};
 ghost use Rattle.desk_history.specs.DecisionRefusals.{may_answer};
 
 use desk_bytes::{Digest, Refusal};
-use desk_calls::{Answering, Octets, ShownPeople, ShownProposals};
-use desk_exports::Export;
+use desk_calls::Answering;
+use desk_exports::{Octets, Reading, Shown, ShownPeople, ShownProposals};
 use desk_history::{BarredImage, File, ProposalRow, Rule, ShownImpact, ShownPerson, Verdict};
 use desk_service::token_digest;
 use desk_texts::{
     Caller, Command, Confirmation, Counts, Facts, Import, Key, Outcome, Person, PersonName,
-    Proposal, ProposalKind, ProposalNumber, ProposalState, Reply, RequestNumber, Role,
-    ShownRequest, State, Title, command_text,
+    Proposal, ProposalKind, ProposalNumber, ProposalState, Reply, RequestNumber, Role, State,
+    Title, command_text,
 };
 use http_responses::RequestsText;
 use std::alloc::{AllocError, Global};
@@ -48,26 +49,33 @@ fn tell(asked: &mut String, words: &[&str]) -> Result<(), AllocError> {
     Ok(())
 }
 
-/// Records a call, and returns these bytes.
-fn exported(
-    alloc: Global,
-    asked: &mut String,
-    word: &str,
-    bytes: &[u8],
-) -> Result<Octets, AllocError> {
-    tell(asked, &[word])?;
-    let mut copy = Vec::new(alloc);
-    copy.extend_from_slice(bytes)?;
-    Ok(Octets::new(copy))
+/// The word that a reading is recorded by.
+fn word_of(reading: &Reading) -> &'static str {
+    match reading {
+        Reading::Requests => "requests",
+        Reading::Request(_) => "request",
+        Reading::Proposals => "proposals",
+        Reading::Proposal(_) => "proposal",
+        Reading::Impact(_) => "impact",
+        Reading::Dbx => "dbx",
+        Reading::Db => "db",
+        Reading::Level => "level",
+        Reading::Report => "report",
+        Reading::Minutes(_) => "minutes",
+        Reading::People => "people",
+    }
 }
 
-/// The word of an export, and its bytes.
-fn told_of(what: Export) -> (&'static str, &'static [u8]) {
-    match what {
-        Export::Db => ("db", b""),
-        Export::Dbx => ("dbx", b"\ndbx"),
-        Export::Level => ("level", b"sbat,1,2021030218\n"),
-        Export::Minutes => ("minutes", b""),
+/// Records a reading, with the person's name unless everybody is shown the same.
+fn tell_reading(
+    asked: &mut String,
+    name: &PersonName,
+    reading: &Reading,
+) -> Result<(), AllocError> {
+    tell(asked, &[word_of(reading)])?;
+    match reading {
+        Reading::Dbx | Reading::Db | Reading::Level | Reading::Report => Ok(()),
+        _ => tell(asked, &[name.as_str()]),
     }
 }
 
@@ -118,7 +126,7 @@ fn reply(command: &Command) -> Option<Reply> {
 }
 
 /// One proposal, of otto's.
-fn shown(alloc: Global) -> Option<ShownProposals> {
+fn proposals(alloc: Global) -> Option<ShownProposals> {
     let mut proposals = Vec::new(alloc);
     proposals
         .push(Proposal {
@@ -188,15 +196,59 @@ fn everybody(alloc: Global) -> Option<ShownPeople> {
 }
 
 /// Two lines of minutes from the first number on, one from the second, and none from then on.
-fn lines_from(alloc: Global, from: u64) -> Result<Octets, AllocError> {
-    let bytes: &[u8] = match from {
+fn lines_from(from: u64) -> &'static [u8] {
+    match from {
         1 => b"first\nsecond\n",
         2 => b"second\n",
         _ => b"",
-    };
-    let mut lines = Vec::new(alloc);
-    lines.extend_from_slice(bytes)?;
-    Ok(Octets::new(lines))
+    }
+}
+
+/// These bytes.
+fn octets(alloc: Global, bytes: &[u8]) -> Option<Octets> {
+    let mut copy = Vec::new(alloc);
+    copy.extend_from_slice(bytes).ok()?;
+    Some(Octets::new(copy))
+}
+
+/// What is shown, or `None` if memory is refused.
+fn given(alloc: Global, reading: &Reading) -> Option<Shown<RequestsText>> {
+    Some(match reading {
+        Reading::Requests | Reading::Request(_) => Shown::Requests(RequestsText::new(alloc)),
+        Reading::Proposals => Shown::Proposals(proposals(alloc)?),
+        Reading::Proposal(number) => Shown::Proposal(whole(alloc, *number)?),
+        Reading::Impact(number) => Shown::Impact(*number, impact_of_one(alloc)?),
+        Reading::Dbx => Shown::Dbx(octets(alloc, b"\ndbx")?),
+        Reading::Db => Shown::Db(octets(alloc, b"")?),
+        Reading::Level => Shown::Level(octets(alloc, b"sbat,1,2021030218\n")?),
+        Reading::Report => Shown::Report(octets(alloc, b"people 1\n")?),
+        Reading::Minutes(from) => Shown::Minutes(octets(alloc, lines_from(*from))?),
+        Reading::People => Shown::People(everybody(alloc)?),
+    })
+}
+
+/// Why nothing is shown, if nothing is.
+fn refused(reading: &Reading) -> Option<Refusal>
+    ensures { IfSome result (λ refusal. IsTrue (may_refuse reading.now refusal)) }
+{
+    match reading {
+        Reading::Request(number) => match number.value() {
+            7 => Some(Refusal::NoSuchRequest),
+            _ => Some(Refusal::NotYourRole),
+        },
+        Reading::Proposal(number) => match number.value() {
+            7 => Some(Refusal::NoSuchProposal),
+            8 => Some(Refusal::NotYourRole),
+            _ => None,
+        },
+        Reading::Impact(number) => match number.value() {
+            7 => Some(Refusal::NoSuchProposal),
+            8 => Some(Refusal::NotYourRole),
+            9 => Some(Refusal::ProposalClosed),
+            _ => None,
+        },
+        _ => None,
+    }
 }
 
 impl Answering for StandIn {
@@ -253,116 +305,17 @@ impl Answering for StandIn {
         }
     }
 
-    fn request(&mut self, caller: &Caller, number: RequestNumber) -> Result<ShownRequest, Refusal> {
+    fn read(&mut self, person: Person, reading: Reading) -> Result<Shown<RequestsText>, Refusal> {
         if self.has_failed {
             return Err(Refusal::Reopen);
         }
-        if tell(&mut self.asked, &["request", caller.name()]).is_err() {
+        let Person { name, .. } = person;
+        if tell_reading(&mut self.asked, &name, &reading).is_err() {
             return Err(Refusal::NoMemory);
         }
-        match number.value() {
-            7 => Err(Refusal::NoSuchRequest),
-            _ => Err(Refusal::NotYourRole),
-        }
-    }
-
-    fn requests_of(&mut self, caller: &Caller) -> Result<RequestsText, Refusal> {
-        if self.has_failed {
-            return Err(Refusal::Reopen);
-        }
-        match tell(&mut self.asked, &["requests", caller.name()]) {
-            Ok(()) => Ok(RequestsText::new(self.alloc)),
-            Err(AllocError) => Err(Refusal::NoMemory),
-        }
-    }
-
-    fn proposals(&mut self, caller: &Caller) -> Result<ShownProposals, Refusal> {
-        if self.has_failed {
-            return Err(Refusal::Reopen);
-        }
-        if tell(&mut self.asked, &["proposals", caller.name()]).is_err() {
-            return Err(Refusal::NoMemory);
-        }
-        shown(self.alloc).ok_or(Refusal::NoMemory)
-    }
-
-    fn proposal(
-        &mut self,
-        caller: &Caller,
-        number: ProposalNumber,
-    ) -> Result<ProposalRow, Refusal> {
-        if self.has_failed {
-            return Err(Refusal::Reopen);
-        }
-        if tell(&mut self.asked, &["proposal", caller.name()]).is_err() {
-            return Err(Refusal::NoMemory);
-        }
-        match number.value() {
-            7 => Err(Refusal::NoSuchProposal),
-            8 => Err(Refusal::NotYourRole),
-            _ => whole(self.alloc, number).ok_or(Refusal::NoMemory),
-        }
-    }
-
-    fn impact(&mut self, caller: &Caller, number: ProposalNumber) -> Result<ShownImpact, Refusal> {
-        if self.has_failed {
-            return Err(Refusal::Reopen);
-        }
-        if tell(&mut self.asked, &["impact", caller.name()]).is_err() {
-            return Err(Refusal::NoMemory);
-        }
-        match number.value() {
-            7 => Err(Refusal::NoSuchProposal),
-            8 => Err(Refusal::NotYourRole),
-            9 => Err(Refusal::ProposalClosed),
-            _ => impact_of_one(self.alloc).ok_or(Refusal::NoMemory),
-        }
-    }
-
-    fn people(&mut self, caller: &Caller) -> Result<ShownPeople, Refusal> {
-        if self.has_failed {
-            return Err(Refusal::Reopen);
-        }
-        if tell(&mut self.asked, &["people", caller.name()]).is_err() {
-            return Err(Refusal::NoMemory);
-        }
-        match everybody(self.alloc) {
-            Some(people) => Ok(people),
-            None => Err(Refusal::NoMemory),
-        }
-    }
-
-    fn minutes_from(&mut self, caller: &Caller, from: u64) -> Result<Octets, Refusal> {
-        if self.has_failed {
-            return Err(Refusal::Reopen);
-        }
-        if tell(&mut self.asked, &["minutes", caller.name()]).is_err() {
-            return Err(Refusal::NoMemory);
-        }
-        match lines_from(self.alloc, from) {
-            Ok(lines) => Ok(lines),
-            Err(AllocError) => Err(Refusal::NoMemory),
-        }
-    }
-
-    fn export(&mut self, alloc: Global, what: Export) -> Result<Octets, Refusal> {
-        if self.has_failed {
-            return Err(Refusal::Reopen);
-        }
-        let (word, bytes) = told_of(what);
-        match exported(alloc, &mut self.asked, word, bytes) {
-            Ok(bytes) => Ok(bytes),
-            Err(AllocError) => Err(Refusal::NoMemory),
-        }
-    }
-
-    fn report(&mut self, alloc: Global) -> Result<Octets, Refusal> {
-        if self.has_failed {
-            return Err(Refusal::Reopen);
-        }
-        match exported(alloc, &mut self.asked, "report", b"people 1\n") {
-            Ok(bytes) => Ok(bytes),
-            Err(AllocError) => Err(Refusal::NoMemory),
+        match refused(&reading) {
+            Some(refusal) => Err(refusal),
+            None => given(self.alloc, &reading).ok_or(Refusal::NoMemory),
         }
     }
 }

@@ -6,6 +6,7 @@ ghost use Rattle.http_responses.specs.json.Arrays.{after_commas};
 ghost use Rattle.http_responses.specs.json.Requests.{request_data, requests_data};
 
 use crate::json::arrays::{in_brackets, push_item};
+use desk_exports::RequestList;
 use desk_texts::ShownRequest;
 use http_server::Log;
 use std::alloc::{AllocError, Global};
@@ -58,5 +59,17 @@ impl RequestsText {
         ensures { IfOk result (λ text. text.items ≡ compact_text (requests_data self)) }
     {
         in_brackets(self.text)
+    }
+}
+
+impl RequestList for RequestsText {
+    ghost holds = { λ text shown. text ≡ shown };
+
+    fn new(alloc: Global) -> RequestsText {
+        RequestsText::new(alloc)
+    }
+
+    fn push(&mut self, shown: ShownRequest) -> Result<(), AllocError> {
+        RequestsText::push(self, &shown)
     }
 }

@@ -1,10 +1,11 @@
 //! Requests by their heads.
 use desk_bytes::{Refusal, Watch};
+use desk_exports::Reading;
 use desk_texts::{Command, ProposalNumber, RequestNumber};
 use http_requests::{
     AskedFault, Begun, BytesAsked, CommandAsked, ImageAsked, JsonAsked, KeyedAsked, ParsedHead,
-    PostRoute, ReadAsked, Route, Routes, Wanted, check_head, command_asked, image_asked,
-    read_asked, read_head,
+    PostRoute, Route, Routes, Wanted, check_head, command_asked, image_asked, read_asked,
+    read_head,
 };
 use std::alloc::Global;
 use std::test::Fail;
@@ -185,7 +186,7 @@ RaiseLevel POST /level HTTP/1.1|CONTENT-LENGTH:\t 7 \t|desk-key:k||
 /// The request of a head.
 #[derive(Drop)]
 enum Asked {
-    Read(ReadAsked),
+    Read(Reading),
     Image(ImageAsked),
     Command(KeyedAsked),
 }
@@ -229,19 +230,19 @@ fn outcome(alloc: Global, routes: &Routes, bytes: &[u8]) -> &'static str {
 }
 
 /// The name of a GET.
-fn name_of_read(asked: &ReadAsked) -> &'static str {
+fn name_of_read(asked: &Reading) -> &'static str {
     match asked {
-        ReadAsked::Requests => "Requests",
-        ReadAsked::Request(_) => "Request",
-        ReadAsked::Proposals => "Proposals",
-        ReadAsked::Proposal(_) => "Proposal",
-        ReadAsked::Impact(_) => "Impact",
-        ReadAsked::Dbx => "Dbx",
-        ReadAsked::Db => "Db",
-        ReadAsked::Level => "Level",
-        ReadAsked::Report => "Report",
-        ReadAsked::Minutes(_) => "Minutes",
-        ReadAsked::People => "People",
+        Reading::Requests => "Requests",
+        Reading::Request(_) => "Request",
+        Reading::Proposals => "Proposals",
+        Reading::Proposal(_) => "Proposal",
+        Reading::Impact(_) => "Impact",
+        Reading::Dbx => "Dbx",
+        Reading::Db => "Db",
+        Reading::Level => "Level",
+        Reading::Report => "Report",
+        Reading::Minutes(_) => "Minutes",
+        Reading::People => "People",
     }
 }
 
@@ -385,7 +386,7 @@ fn asks_for_title(alloc: Global) -> bool {
 }
 
 /// The read that is asked for.
-fn read_of(asked: &Asked) -> Option<ReadAsked> {
+fn read_of(asked: &Asked) -> Option<Reading> {
     match asked {
         Asked::Read(read) => Some(*read),
         Asked::Image(_) | Asked::Command(_) => None,
@@ -393,16 +394,16 @@ fn read_of(asked: &Asked) -> Option<ReadAsked> {
 }
 
 /// The read that a head asks for.
-fn read_by(alloc: Global, head: &str) -> Option<ReadAsked> {
+fn read_by(alloc: Global, head: &str) -> Option<Reading> {
     read_of(&asked_by(alloc, head)?)
 }
 
 /// Whether heads with a number ask for what has that number.
 fn asks_for_number(alloc: Global) -> Option<bool> {
-    let request = ReadAsked::Request(RequestNumber::new(120)?);
-    let proposal = ReadAsked::Proposal(ProposalNumber::new(120)?);
-    let impact = ReadAsked::Impact(ProposalNumber::new(120)?);
-    let minutes = ReadAsked::Minutes(1_000_001);
+    let request = Reading::Request(RequestNumber::new(120)?);
+    let proposal = Reading::Proposal(ProposalNumber::new(120)?);
+    let impact = Reading::Impact(ProposalNumber::new(120)?);
+    let minutes = Reading::Minutes(1_000_001);
     Some(
         read_by(alloc, "GET /requests/120 HTTP/1.1||") == Some(request)
             && read_by(alloc, "GET /proposals/120 HTTP/1.1||") == Some(proposal)

@@ -5,11 +5,12 @@ use super::exporting::minutes;
 use super::founding::made;
 use super::*;
 use desk_answers::OpenDesk;
-use desk_calls::{Answer, Answering, Call as Asked, Octets, Task};
+use desk_calls::{Answer, Answering, Call as Asked, Task};
+use desk_exports::{Octets, Reading, Shown};
 use desk_http::{serve_each, serve_one};
 use desk_service::token_digest;
 use desk_texts::{Caller, Command, Key, PersonName, Role};
-use http_requests::{ReadAsked, Routes};
+use http_requests::Routes;
 use testing::bytes_of;
 
 type Served = OpenDesk<MemStore>;
@@ -218,14 +219,14 @@ fn with_minutes<S: Alter + Drop>(
 fn level_asked(alloc: Global, line: &str) -> Option<Asked> {
     Some(Asked {
         person: person(alloc, line)?,
-        task: Task::Read(ReadAsked::Level),
+        task: Task::Read(Reading::Level),
     })
 }
 
 /// The text of an answer that is a level.
 fn level_of(answer: Answer) -> Option<Octets> {
     match answer {
-        Answer::Level(text) => Some(text),
+        Answer::Shown(Shown::Level(text)) => Some(text),
         _ => None,
     }
 }

@@ -3,6 +3,7 @@ use Rattle.desk_history.specs.People.{people}
 use Rattle.desk_history.specs.ProposalShown.{proposal_for}
 use Rattle.store_reads.specs.Failures.{IsFailure}
 use Rattle.store_reads.specs.People.{IsOneOf}
+use Rattle.desk_store.proofs.RefusalLemmas.{proposal_told}
 use Rattle.desk_store.proofs.PersonLemmas.{reads_taken, without_person}
 use Rattle.desk_store.proofs.OfficerLemmas.{same_err, same_ok}
 use Rattle.desk_store.proofs.desk.Desk.proposal.Goals as goal
@@ -24,7 +25,8 @@ returns-in-Ok-clause-refused g c clean =
 pub returns-in-Ok-clause-reads : goal.returns-in-Ok-clause-reads
 returns-in-Ok-clause-reads g c =
     let it = reads_taken g.S.Store IsFailure c.args.self.now c.answer_question.new.self c.take-person.new.self c.take-person.ensures.after (Ok c.in-Ok.given) c.if-self.false c.in-Ok.ensures.reads in
-    search (rules, it)
+    let bound = proposal_told c.in-Ok.given c.in-Ok.ensures.bound in
+    search (rules, it, bound)
 
 pub returns-clause-reads : goal.returns-clause-reads
 returns-clause-reads g c =

@@ -4,6 +4,7 @@ use Rattle.desk_history.specs.Shown.{IsGiven, requests_for}
 use Rattle.desk_exports.specs.Readings.{HoldsShown}
 use Rattle.store_reads.specs.Failures.{IsFailure}
 use Rattle.store_reads.specs.People.{IsOneOf}
+use Rattle.desk_store.proofs.RefusalLemmas.{reader_told}
 use Rattle.desk_store.proofs.PersonLemmas.{reads_taken, without_person}
 use Rattle.desk_store.proofs.ShowingLemmas.{given_err, given_ok}
 use Rattle.desk_store.proofs.desk.Desk.requests_of.Goals as goal
@@ -25,7 +26,8 @@ returns-in-Ok-clause-refused g c clean =
 pub returns-in-Ok-clause-reads : goal.returns-in-Ok-clause-reads
 returns-in-Ok-clause-reads g c =
     let it = reads_taken g.S.Store IsFailure c.args.self.now c.answer_question.new.self c.take-person.new.self c.take-person.ensures.after (Ok c.in-Ok.given) c.if-self.false c.in-Ok.ensures.reads in
-    search (rules, it)
+    let bound = reader_told c.in-Ok.given c.in-Ok.ensures.bound in
+    search (rules, it, bound)
 
 pub returns-clause-reads : goal.returns-clause-reads
 returns-clause-reads g c =
