@@ -7,7 +7,7 @@ mod digests;
 mod fault;
 mod fed;
 mod hashing;
-mod told;
+mod summary;
 mod writing;
 
 pub use auditing::{audit_file, audit_input};

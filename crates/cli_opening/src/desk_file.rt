@@ -1,10 +1,10 @@
 //! A desk's file: made, opened and closed.
 ghost use Rattle.std.specs.Prelude.{◌≡◌, None, IfErr, IfOk, IfSome, OnOk, false, true};
 ghost use Rattle.cli_opening.specs.Closing.{Ends, FailsForGood, IsClosed};
-ghost use Rattle.cli_opening.specs.Faults.{IsClosingRefusal, IsFileRefusal, IsLasting};
+ghost use Rattle.cli_opening.specs.Faults.{IsClosingRefusal, IsLasting};
 ghost use Rattle.cli_opening.specs.Faults.{IsMakingRefusal, IsOpeningRefusal};
 ghost use Rattle.cli_opening.specs.Opening.{IsMade, IsOpened, Makes, Opens};
-ghost use Rattle.cli_lines.specs.Faults.{IsRow};
+ghost use Rattle.cli_lines.specs.Faults.{IsFileRefusal, IsRow};
 
 use crate::connect;
 use cli_lines::{Ending, Fault, Outcome};
