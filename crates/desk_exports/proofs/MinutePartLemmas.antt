@@ -5,10 +5,10 @@ use Rattle.std.proofs.lemmas.List.{length-reverse, reverse-append, take-append-d
 use Rattle.std.proofs.lemmas.List.Concat.{flat_map-append}
 use Rattle.desk_texts.specs.Callers.{caller_name}
 use Rattle.desk_texts.specs.ReplyTexts.{reply_text_of}
-use Rattle.desk_history.specs.Calls.{History, Item}
+use Rattle.desk_history.specs.Calls.{History}
 use Rattle.desk_history.specs.Replies.{minute_of, minutes}
 use Rattle.desk_history.specs.declared.rows.Minute.{Minute}
-use Rattle.desk_exports.specs.Exports.{minute_line, minutes_text}
+use Rattle.desk_exports.specs.Exports.{minute_line}
 use Rattle.desk_exports.specs.MinutesShown.{FirstLinesStay, PartsEnd, PartsJoin, first_lines, most_lines, part_from}
 
 -- ---- first items, and the next ones

@@ -1,12 +1,25 @@
-//! The exports of a desk after a history of calls (the bytes of dbx and db, the level, the minutes,
-//! the report), as definitions, and worked examples of them.
+//! What a desk shows after a history of calls: its exports (the bytes of dbx and db, the level, the
+//! minutes, the report) and what each person can read, as definitions, and worked examples of the
+//! exports.
 #![tactic(auto)]
 
 mod export;
 mod laws;
+mod octets;
+mod reading;
+mod request_list;
+mod shown;
+mod shown_people;
+mod shown_proposals;
 
 pub use export::Export;
 pub use laws::{
     exports_are_in_order, exports_are_spelt, exports_are_their_parts, exports_are_written,
     lengths_come_true, minutes_come_in_parts, minutes_go_on,
 };
+pub use octets::Octets;
+pub use reading::Reading;
+pub use request_list::RequestList;
+pub use shown::Shown;
+pub use shown_people::ShownPeople;
+pub use shown_proposals::ShownProposals;

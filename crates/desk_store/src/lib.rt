@@ -19,7 +19,7 @@ mod restarting;
 mod showing;
 
 pub use desk::Desk;
+pub use desk_exports::RequestList;
 pub use living::{calls_make_lives, openings_begin_lives};
 pub use restarting::{reopen, restart};
 pub use store_counts::{Counts, KindCounts, ListCounts, RequestCounts};
-pub use store_requests::RequestList;

@@ -10,7 +10,7 @@ ghost use Rattle.store_reads.specs.People.{IsOneOf};
 ghost use Rattle.store_reads.specs.Reads.{listed};
 ghost use Rattle.desk_rules.specs.Shown.{Shows};
 ghost use Rattle.desk_rules.specs.Views.{ShowsLists, keys_of};
-ghost use Rattle.store_requests.specs.Lists.{HoldsShown};
+ghost use Rattle.desk_exports.specs.Readings.{HoldsShown};
 ghost use Rattle.store_requests.specs.Telling.{IsOfficerRefusal, IsReaderRefusal, IsRequestRefusal};
 ghost use Rattle.store_views.specs.remembered.Current.{IsCurrent};
 ghost use Rattle.store_views.specs.sizes.Sizes.{AreRight};
@@ -19,6 +19,7 @@ ghost use Rattle.store_views.specs.Named.{HoldsNoRowBeyond};
 
 use crate::asking::Question;
 use desk_bytes::{Digest, Refusal};
+use desk_exports::RequestList;
 use desk_rules::{CallRef, ListView, View};
 use desk_texts::{Facts, Person, PersonName, Proposal, RequestNumber, ShownRequest};
 use sqlite::{Alter, Transaction};
@@ -26,7 +27,7 @@ use std::alloc::Global;
 use std::marker::PhantomData;
 use store_counts::{Counts, counts};
 use store_reads::person_of_token;
-use store_requests::{RequestList, proposals_of, request, requests_of};
+use store_requests::{proposals_of, request, requests_of};
 use store_views::{KnownSizes, Remembered, list_view, view};
 
 /// Who has the token of this SHA-256?

@@ -4,7 +4,7 @@ ghost use Rattle.sqlite.specs.Held.{state};
 ghost use Rattle.sqlite.specs.State.{HasCleanDisk};
 ghost use Rattle.desk_history.specs.Shown.{IsShown, request_for, requests_for};
 ghost use Rattle.desk_history.specs.Shown.{proposals_for, shown_proposal};
-ghost use Rattle.store_requests.specs.Lists.{HoldsShown};
+ghost use Rattle.desk_exports.specs.Readings.{HoldsShown};
 ghost use Rattle.desk_store.specs.Desks.{ForEachShown, ReadsDesk};
 ghost use Rattle.desk_store.specs.Showing.{IsReadingRefusal};
 
@@ -14,7 +14,7 @@ use desk_bytes::Refusal;
 use desk_texts::{Caller, Proposal, RequestNumber, ShownRequest};
 use sqlite::Alter;
 use std::marker::PhantomData;
-use store_requests::RequestList;
+use desk_exports::RequestList;
 
 impl<S: Alter + Drop> Desk<S> {
     /// The request of this number, as the caller is shown it: its facts, its state, the votes on it

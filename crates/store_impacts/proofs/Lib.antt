@@ -4,4 +4,6 @@ pub mod CallLemmas
 pub mod FoundLemmas
 pub mod LoopLemmas
 pub mod PassLemmas
+mod QueryLemmas
+pub mod ReaderLemmas
 pub mod TellsLemmas

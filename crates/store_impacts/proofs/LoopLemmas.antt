@@ -1,5 +1,5 @@
 -- Images one after another, as those of an impact.
-use Rattle.std.proofs.Common.{◌≡◌, ℕ, ◌+◌, ◌<◌, add-one, Bool, true, false, cond, List, [], ◌∷◌, ◌++◌, map, filter, take, length, get_or, Option, Some, None, option_map, refl, sym, ap, ap₂, subst, ◌∙◌, arith}
+use Rattle.std.proofs.Common.{◌≡◌, ◌≢◌, ℕ, ◌+◌, ◌<◌, add-one, Bool, true, false, cond, List, [], ◌∷◌, ◌++◌, map, filter, take, length, get_or, Option, Some, None, option_map, refl, sym, ap, ap₂, subst, ◌∙◌, arith}
 use Rattle.std.specs.Prelude.{filter_map, if◌then◌else◌, is_some, reverse}
 use Rattle.std.specs.List.{AllByRecursion, Contains, cons_option}
 use Rattle.std.proofs.Math.Seq.{take-suc}
@@ -23,6 +23,11 @@ use Rattle.store_impacts.specs.Barring.{AreBarred, IsBarred, barred_by, rule_by}
 use Rattle.store_impacts.specs.Touching.{Brought, brought, is_touched, kept, touched}
 use Rattle.store_impacts.specs.declared.touched_image.Touched.{Touched}
 use Rattle.store_impacts.proofs.BroughtLemmas.{brings_images}
+
+-- a list that isn't empty has an item
+pub has_items : {X : Type 0} (xs : List X) → xs ≢ [] → 0 < length xs
+has_items [] some = absurd (some refl)
+has_items (x ∷ xs) some = omega arith
 
 -- ---- one image more
 

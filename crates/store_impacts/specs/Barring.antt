@@ -5,14 +5,15 @@ use Rattle.std.specs.Option.{option_map_or}
 use Rattle.desk_texts.specs.declared.facts.Facts.{Facts}
 use Rattle.desk_history.specs.Calls.{History}
 use Rattle.desk_history.specs.Images.{Image}
-use Rattle.desk_history.specs.Impact.{allows, first_rule, newly_barred_by}
+use Rattle.desk_history.specs.Impact.{allows, first_rule, impact_of, newly_barred_by, standing_of, would_force}
 use Rattle.desk_history.specs.ImpactShown.{shown_barred}
 use Rattle.desk_history.specs.Requests.{request, state}
 use Rattle.desk_history.specs.Verdicts.{Standing, is_barred, verdict}
 use Rattle.desk_history.specs.declared.impact.BarredImage.{BarredImage}
 use Rattle.desk_history.specs.declared.impact.Rule.{Rule}
 use Rattle.desk_history.specs.declared.rows.RequestRow.{RequestRow}
-use Rattle.store_impacts.specs.Touching.{Brought, brought, kept}
+use Rattle.desk_rules.specs.Entries.{StandsAs}
+use Rattle.store_impacts.specs.Touching.{Brought, brought, kept, touched}
 use Rattle.store_impacts.specs.declared.barring.Finding.{Finding}
 use Rattle.store_impacts.specs.declared.touched_image.Touched.{Touched}
 
@@ -51,3 +52,9 @@ abbrev pub AreBarred : Standing → List Touched → List BarredImage → Histor
 AreBarred entries images found cs =
     (bs : List Brought) → AllByRecursion (Contains (brought cs)) bs → map kept bs ≡ images
     → found ≡ filter_map (λ b. barred_by entries cs b.image) bs
+
+-- where the entries of a proposal bar no image of the history by themselves, its impact bars none
+abbrev pub UntouchedBarsNone : Type 0
+UntouchedBarsNone =
+    (entries : Standing) (cs : History) (k : ℕ) → StandsAs entries (standing_of (would_force cs k)) → [] ≡ touched entries cs
+    → [] ≡ map shown_barred (impact_of cs k).bars

@@ -1,7 +1,6 @@
 -- Callers who are shown impacts.
-use Rattle.std.specs.Prelude.{ℕ, Option, Some, None, Result, Ok, Err, ok_or}
+use Rattle.std.specs.Prelude.{ℕ, Option, Some, None, Result, Ok, Err}
 use Rattle.desk_bytes.specs.declared.refusal.Refusal.{Refusal}
-use Rattle.desk_bytes.specs.declared.refusal.Refusal.TheVariants as refusals
 use Rattle.desk_texts.specs.declared.caller.Caller.{Caller}
 use Rattle.desk_texts.specs.declared.caller.Caller.TheVariants as callers
 use Rattle.desk_texts.specs.declared.command.Person.{Person}
@@ -12,10 +11,6 @@ use Rattle.desk_history.specs.Shown.{officer, reader}
 abbrev pub refused : Result Person Refusal → Option Refusal
 refused (Ok p) = None
 refused (Err refusal) = Some refusal
-
--- why the person isn't shown impacts, if so
-abbrev pub refusal_by : Option Person → Option Refusal
-refusal_by found = refused (officer (ok_or found refusals.UnknownCaller))
 
 -- why the caller isn't shown impacts, if so: the refusal of `impact_for` by the caller alone
 abbrev pub refusal_to : History → Caller → Option Refusal

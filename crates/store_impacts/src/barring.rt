@@ -1,5 +1,5 @@
 //! The images that the entries of a proposal would bar, by their own keys.
-ghost use Rattle.std.specs.Prelude.{◌≡◌, ◌++◌, ℕ, OnOk, map};
+ghost use Rattle.std.specs.Prelude.{◌≡◌, ◌≢◌, ◌++◌, [], ℕ, OnOk, map};
 ghost use Rattle.desk_history.specs.Impact.{allows, impact_of, standing_of, would_force};
 ghost use Rattle.desk_history.specs.ImpactShown.{shown_barred};
 ghost use Rattle.desk_rules.specs.Entries.{StandsAs};
@@ -18,7 +18,7 @@ use desk_rules::verdict;
 use desk_texts::{Facts, RequestNumber};
 use sqlite::{Alter, Transaction};
 use std::alloc::Global;
-use store_reads::{ReadFault, call_numbered, own_row, request_numbered};
+use store_reads::{ReadFault, call_numbered, request_numbered};
 use store_views::list_view;
 
 /// What is found of an image that isn't barred: whether it is allowed now, and the rule of the
@@ -52,6 +52,7 @@ fn facts_of<S: Alter>(
     ensures same_reference { tx.new.conn.ghost_name ≡ tx.old.conn.ghost_name }
     ensures value { DoesInside S.Store tx.old.conn.now tx.new.conn.now result
         (λ facts. TellsOf (spec.AreFactsOf call facts)) }
+    ensures inside { StaysInside S.Store tx.old.conn.now tx.new.conn.now result }
     ensures kept { CommitsNothing S.Store tx.old.conn.now tx.new.conn.now }
     ensures survives { Spares S.Store tx.old.conn.now tx.new.conn.now }
 {
@@ -119,6 +120,7 @@ fn barred_image<S: Alter, E: Standing>(
     ensures same_reference { tx.new.conn.ghost_name ≡ tx.old.conn.ghost_name }
     ensures value { DoesInside S.Store tx.old.conn.now tx.new.conn.now result
         (λ found. TellsOf (spec.IsBarred (E.Standing.standing entries.now) image found)) }
+    ensures inside { StaysInside S.Store tx.old.conn.now tx.new.conn.now result }
     ensures kept { CommitsNothing S.Store tx.old.conn.now tx.new.conn.now }
     ensures survives { Spares S.Store tx.old.conn.now tx.new.conn.now }
 {
@@ -162,6 +164,8 @@ fn images_of<S: Alter, E: Standing>(
     ensures value { DoesInside S.Store tx.old.conn.now tx.new.conn.now result
         (λ found. TellsOf
         (spec.AreBarred (E.Standing.standing entries.now) touched.now found.items)) }
+    ensures inside { touched.now ≢ []
+        → StaysInside S.Store tx.old.conn.now tx.new.conn.now result }
     ensures kept { CommitsNothing S.Store tx.old.conn.now tx.new.conn.now }
     ensures survives { Spares S.Store tx.old.conn.now tx.new.conn.now }
 {
@@ -176,7 +180,7 @@ fn images_of<S: Alter, E: Standing>(
 /// The images that a Confirm of a proposal would bar, in the order of the calls that brought them,
 /// from those that the proposal's entries bar by themselves (`touched`). Each of those is read
 /// again by its call's number, and judged by its own keys: one that is barred now is left out.
-/// Takes memory for one image at a time, and for what is returned.
+/// Without images nothing is read. Takes memory for one image at a time, and for what is returned.
 ///
 /// `Row`: a call, or a request, isn't as a desk left it.
 pub fn barred<S: Alter, E: Standing>(
@@ -191,13 +195,12 @@ pub fn barred<S: Alter, E: Standing>(
         → StandsAs (E.Standing.standing entries.now) (standing_of (would_force cs k))
         → touched.now ≡ touching.touched (E.Standing.standing entries.now) cs
         → found.items ≡ map shown_barred (impact_of cs k).bars)) }
-    ensures inside { StaysInside S.Store tx.old.conn.now tx.new.conn.now result }
+    ensures inside { touched.now ≢ []
+        → StaysInside S.Store tx.old.conn.now tx.new.conn.now result }
     ensures kept { CommitsNothing S.Store tx.old.conn.now tx.new.conn.now }
     ensures survives { Spares S.Store tx.old.conn.now tx.new.conn.now }
 {
     entries_bar_alone();
     let found = images_of(alloc, tx, entries, touched)?;
-    // Only an open store gives Ok, also where no image is read.
-    own_row(tx)?;
     Ok(found)
 }

@@ -11,7 +11,7 @@ mod reader;
 mod touched_image;
 
 pub use barring::barred;
-pub use laws::images_are_brought;
+pub use laws::{images_are_brought, untouched_bars_none};
 pub use passing::touched;
 pub use reader::refusal_to;
 pub use touched_image::Touched;

@@ -3,7 +3,8 @@ ghost use Rattle.std.specs.Prelude.{◌≡◌, ⊤, IfErr, IfOk, OnOk};
 ghost use Rattle.sqlite.specs.Held.{state};
 ghost use Rattle.sqlite.specs.State.{HasCleanDisk};
 ghost use Rattle.store_reads.specs.Failures.{IsFailure};
-ghost use Rattle.store_exports.specs.Exporting.{SparesOf, StaysOf};
+ghost use Rattle.store_exports.specs.Exporting.{StaysOf};
+ghost use Rattle.store_sql.specs.States.{Spares};
 ghost use Rattle.store_impacts.specs.Passing.{request_after};
 ghost use Rattle.store_impacts.specs.Steps.{SeesCall, with_image};
 ghost use Rattle.store_impacts.specs.Touching.{TouchesOf};
@@ -117,7 +118,7 @@ pub fn touched<S: Alter, E: Standing>(
     ensures named { IfErr result IsFailure }
 
     ensures same { StaysOf (state S.Store conn.old) (state S.Store conn.new) }
-    ensures spares { SparesOf S.Store conn.old conn.new }
+    ensures spares { Spares S.Store conn.old conn.new }
     ensures clean { HasCleanDisk (state S.Store conn.new) → HasCleanDisk (state S.Store conn.old) }
 {
     let mut pass = Pass {

@@ -7,28 +7,14 @@ ghost use Rattle.store_sql.specs.States.{CommitsNothing, DoesInside, Spares, Sta
 ghost use Rattle.store_impacts.specs.Reading as spec;
 
 use desk_bytes::Refusal;
-use desk_texts::{Caller, Person, Role};
+use desk_texts::{Caller, Person};
 use sqlite::{Alter, Transaction};
 use std::alloc::Global;
-use store_reads::{ReadFault, own_row};
-use store_requests::reader_of;
+use store_reads::ReadFault;
+use store_requests::officer_of;
 
-/// Why the person isn't shown impacts, if so: nobody has the name, or the person is no officer.
-fn refusal_by(person: Option<Person>) -> Option<Refusal>
-    ensures exact { result ≡ spec.refusal_by person }
-    ensures named { IfSome result IsOfficerRefusal }
-{
-    let Some(person) = person else {
-        return Some(Refusal::UnknownCaller);
-    };
-    match person.role {
-        Role::Officer => None,
-        Role::Submitter | Role::Reviewer | Role::Signer => Some(Refusal::NotYourRole),
-    }
-}
-
-/// Why the caller isn't shown impacts, or nothing if they are: officers are, and the console. The
-/// person isn't looked up if that is `kept_person`, who must be one of the desk's people (`value`).
+/// Why the caller isn't shown impacts, or nothing if they are: officers are, and the console. An
+/// officer isn't looked up if that is `kept_person`, who must be one of the desk's people (`value`).
 /// Takes memory for the person.
 pub fn refusal_to<S: Alter>(
     alloc: Global,
@@ -48,11 +34,8 @@ pub fn refusal_to<S: Alter>(
     let Caller::Person(name) = caller else {
         return Ok(None);
     };
-    let person = reader_of(alloc, tx, kept_person, name)?;
-    let Some(refusal) = refusal_by(person) else {
-        return Ok(None);
-    };
-    // Only an open store refuses.
-    own_row(tx)?;
-    Ok(Some(refusal))
+    match officer_of(alloc, tx, kept_person, name)? {
+        Ok(()) => Ok(None),
+        Err(refusal) => Ok(Some(refusal)),
+    }
 }

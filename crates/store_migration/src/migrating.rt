@@ -1,11 +1,10 @@
 //! The migration, in one transaction.
-ghost use Rattle.std.specs.Prelude.{◌≡◌, ◌≢◌, ◌⊎◌, ℕ, List, false, length, IfErr, IsTrue, OnOk};
+ghost use Rattle.std.specs.Prelude.{◌≡◌, ◌≢◌, ◌⊎◌, ℕ, List, false, IfErr, IsTrue, OnOk};
 ghost use Rattle.sqlite.specs.Held.{state};
 ghost use Rattle.sqlite.specs.State.{HasCleanDisk, Survives};
 ghost use Rattle.desk_history.specs.Calls.{History};
 ghost use Rattle.store_sql.specs.States.{DoesInside, CommitsNothing, Spares, StaysInside};
 ghost use Rattle.store_reads.specs.Failures.{IsFailure};
-ghost use Rattle.store_reads.specs.Reads.{ReadsTables};
 ghost use Rattle.store_schema.specs.rows.Histories.{ShowsFirst, ShowsHistory};
 ghost use Rattle.store_migration.specs.Migrations.{KeepsShown, Migrates, TurnsFirst};
 ghost use Rattle.store_schema.specs.Names.{takes_an_added_name};
@@ -13,42 +12,37 @@ ghost use Rattle.store_schema.specs.Names.{takes_an_added_name};
 use crate::names::names_are_free;
 use desk_bytes::Refusal;
 use sqlite::{Alter, Connection, Transaction};
-use store_reads::{Counted, ReadFault, count};
+use store_reads::{Counted, count};
 use store_schema::make_added;
 use store_sql::StoreFault;
 use store_writes::{failed_commit, put_migrated, set_version};
 
-/// The number of calls in the tables.
-fn calls_in<S: Alter>(tx: &mut Transaction<'_, S>) -> Result<u64, StoreFault>
-    ensures same_reference { tx.new.conn.ghost_name ≡ tx.old.conn.ghost_name }
-    ensures value { DoesInside S.Store tx.old.conn.now tx.new.conn.now result
-        (λ n. ReadsTables (λ t. n ≡ length t.calls)) }
-    ensures inside { StaysInside S.Store tx.old.conn.now tx.new.conn.now result }
-    ensures kept { CommitsNothing S.Store tx.old.conn.now tx.new.conn.now }
-    ensures survives { Spares S.Store tx.old.conn.now tx.new.conn.now }
-{
-    match count(tx, Counted::Calls) {
-        Ok(calls) => Ok(calls),
-        Err(ReadFault::NoMemory) => Err(StoreFault::NoMemory),
-        Err(ReadFault::Row) => Err(StoreFault::Store),
-        Err(ReadFault::Store) => Err(StoreFault::Store),
-    }
-}
-
 /// Makes the three tables, inserts how many calls were accepted before, and sets the version.
-fn migrate_inside<S: Alter>(tx: &mut Transaction<'_, S>) -> Result<(), StoreFault>
+fn migrate_inside<S: Alter>(tx: &mut Transaction<'_, S>) -> Result<(), Refusal>
     ensures same_reference { tx.new.conn.ghost_name ≡ tx.old.conn.ghost_name }
     ensures value { DoesInside S.Store tx.old.conn.now tx.new.conn.now result
         (λ _. TurnsFirst) }
     ensures inside { StaysInside S.Store tx.old.conn.now tx.new.conn.now result }
+    ensures failed { IfErr result IsFailure }
     ensures kept { CommitsNothing S.Store tx.old.conn.now tx.new.conn.now }
     ensures survives { Spares S.Store tx.old.conn.now tx.new.conn.now }
 {
-    make_added(tx)?;
-    let calls = calls_in(tx)?;
-    put_migrated(tx, calls)?;
-    set_version(tx)?;
-    Ok(())
+    match make_added(tx) {
+        Ok(()) => {}
+        Err(error) => return Err(StoreFault::from(error).refusal()),
+    }
+    let calls = match count(tx, Counted::Calls) {
+        Ok(calls) => calls,
+        Err(fault) => return Err(fault.refusal()),
+    };
+    match put_migrated(tx, calls) {
+        Ok(()) => {}
+        Err(fault) => return Err(fault.refusal()),
+    }
+    match set_version(tx) {
+        Ok(()) => Ok(()),
+        Err(fault) => Err(fault.refusal()),
+    }
 }
 
 /// The migration, if the names are free.
@@ -76,7 +70,7 @@ fn migrate_at_once<S: Alter>(conn: &mut Connection<S>) -> Result<(), Refusal>
             Ok(()) => Ok(()),
             Err(error) => Err(failed_commit(conn, &error).refusal()),
         },
-        Err(fault) => Err(fault.refusal()),
+        Err(refusal) => Err(refusal),
     }
 }
 

@@ -20,7 +20,7 @@ use Rattle.desk_history.specs.Shown.{IsGiven, IsShown, Whole, is_shown_to, reque
 use Rattle.desk_history.specs.Tables.{tables}
 use Rattle.desk_history.specs.declared.rows.RequestRow.{RequestRow}
 use Rattle.store_reads.specs.Reads.{listed}
-use Rattle.store_requests.specs.Lists.{HoldsShown}
+use Rattle.desk_exports.specs.Readings.{HoldsShown}
 use Rattle.store_requests.specs.Steps.{AreNumbered, IsShownIn, ListsFirst, sees_row}
 use Rattle.store_requests.proofs.ItemLemmas.{found_listed}
 use Rattle.store_requests.proofs.MadeLemmas.{is_shown, row_of}

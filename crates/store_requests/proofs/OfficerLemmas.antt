@@ -1,5 +1,5 @@
 -- The answers that only officers get.
-use Rattle.std.proofs.Common.{◌≡◌, ℕ, Bool, true, false, List, filter, Option, Some, None, Result, Ok, Err, refl, sym, ap, subst, ◌∙◌, IsTrue}
+use Rattle.std.proofs.Common.{◌≡◌, ℕ, Bool, true, false, List, [], ◌∷◌, filter, Option, Some, None, Result, Ok, Err, refl, sym, ap, subst, ◌∙◌, IsTrue}
 use Rattle.std.specs.Prelude.{⊤, if◌then◌else◌, ok_or}
 use Rattle.std.specs.Result.{result_map_both}
 use Rattle.sqlite.specs.State.{State}
@@ -15,7 +15,10 @@ use Rattle.desk_history.specs.Shown.{IsGiven, officer, reader}
 use Rattle.desk_history.specs.Tables.{Tables, tables}
 use Rattle.store_reads.specs.People.{IsOneOf}
 use Rattle.store_reads.specs.Reads.{ReadsTables, listed}
-use Rattle.store_reads.proofs.TellsLemmas.{tells_then}
+use Rattle.store_schema.specs.Tables.{desk_layout}
+use Rattle.store_schema.specs.rows.Contents.{contents}
+use Rattle.store_sql.proofs.StopLemmas.{turns_none}
+use Rattle.store_requests.specs.Steps.{KeepsOfficer}
 use Rattle.store_requests.specs.Telling.{IsOfficer, TellsOf}
 use Rattle.store_requests.proofs.ItemLemmas.{found_listed}
 use Rattle.store_requests.proofs.TellsLemmas.{tells_after, tells_of, tells_on}
@@ -69,12 +72,17 @@ module _ (cs : History) (name : List ℕ) where
     pub gives_all : IsOfficer cs name (Ok tt) → (v : V) → shows all v → IsGiven (due_to_officer (officer (reader cs (callers.Person name)))) (Ok v) shows
     gives_all h v it = subst (λ d. IsGiven d (Ok v) shows) (sym (ap due_to_officer (allowed h).1)) it
 
--- ---- the steps from the reads of a person to the answer, where the person who is kept is one of
--- the desk's
+  -- the officer who is kept
+  pub kept_officer : (kept : Option Person) → KeepsOfficer kept name → IsOneOf kept (people cs) → IsOfficer cs name (Ok tt)
+  kept_officer None is known = absurd is
+  kept_officer (Some p) is known = is_by_role p (subst (λ n. filter (has_name n) (people cs) ≡ p ∷ []) (sym is.0) known) true is.1
+
+-- ---- the steps from the read of a person to the answer, where the person who is kept is one of the
+-- desk's
 
 module _ (kept : Option Person) (name : List ℕ) where
   abbrev pub FindsPerson : Option Person → Tables → Type 0
-  FindsPerson found t = IsOneOf kept t.people → filter (has_name name) t.people ≡ listed found
+  FindsPerson found t = filter (has_name name) t.people ≡ listed found
 
   abbrev pub TellsIf : (History → Type 0) → State → State → Type 0
   TellsIf told = TellsOf (λ cs. IsOneOf kept (people cs) → told cs)
@@ -82,19 +90,23 @@ module _ (kept : Option Person) (name : List ℕ) where
   abbrev pub TellsOfficer : Result (Unit {0}) Refusal → State → State → Type 0
   TellsOfficer given = TellsIf (λ cs. IsOfficer cs name given)
 
-  module _ (found : Option Person) (first mid : State) where
-    pub tells_nobody : found ≡ None → ReadsTables (FindsPerson found) first mid → TellsOfficer (Err refusals.UnknownCaller) first mid
-    tells_nobody none read =
-        tells_of first mid (FindsPerson found) (λ cs. IsOneOf kept (people cs) → IsOfficer cs name (Err refusals.UnknownCaller))
-        (λ owner cs h e known. is_nobody cs name (subst (IsNamed cs name) none (e known))) read
+  -- without a read
+  pub tells_kept : (s : State) → KeepsOfficer kept name → IsTrue s.in_transaction → TellsOfficer (Ok tt) s s
+  tells_kept s is inside = record {
+    kept = turns_none desk_layout contents s inside;
+    tells = λ owner cs h sees known. kept_officer cs name kept is known;
+  }
 
-    -- after one more read
-    pub tells_role : (new : State) (Q : Tables → Type 0) (p : Person) (b : Bool) → found ≡ Some p → is_officer p.role ≡ b
-        → ReadsTables (FindsPerson found) first mid → (IsTrue mid.in_transaction → ReadsTables Q mid new) → TellsOfficer (by_role b) first new
-    tells_role new Q p b some is read next =
-        tells_of first new (λ t. FindsPerson found t × Q t) (λ cs. IsOneOf kept (people cs) → IsOfficer cs name (by_role b))
-        (λ owner cs h e known. is_by_role cs name p (subst (IsNamed cs name) some (e.0 known)) b is)
-        (tells_then first mid new (FindsPerson found) Q read (next read.kept.inside))
+  module _ (found : Option Person) (first new : State) where
+    pub tells_nobody : found ≡ None → ReadsTables (FindsPerson found) first new → TellsOfficer (Err refusals.UnknownCaller) first new
+    tells_nobody none read =
+        tells_of first new (FindsPerson found) (λ cs. IsOneOf kept (people cs) → IsOfficer cs name (Err refusals.UnknownCaller))
+        (λ owner cs h e known. is_nobody cs name (subst (IsNamed cs name) none e)) read
+
+    pub tells_role : (p : Person) (b : Bool) → found ≡ Some p → is_officer p.role ≡ b → ReadsTables (FindsPerson found) first new → TellsOfficer (by_role b) first new
+    tells_role p b some is read =
+        tells_of first new (FindsPerson found) (λ cs. IsOneOf kept (people cs) → IsOfficer cs name (by_role b))
+        (λ owner cs h e known. is_by_role cs name p (subst (IsNamed cs name) some e) b is) read
 
   module _ (given : Result (Unit {0}) Refusal) (first mid : State) (told : History → Type 0) where
     pub tells_refusal : (r : Refusal) → given ≡ Err r → ((cs : History) → IsOfficer cs name (Err r) → told cs) → TellsOfficer given first mid → TellsIf told first mid

@@ -1,4 +1,3 @@
 pub mod Lines
-pub mod Lists
 pub mod Steps
 pub mod Telling

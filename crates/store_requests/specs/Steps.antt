@@ -1,5 +1,5 @@
 -- The reads of a request, part by part. Auditors needn't believe these words.
-use Rattle.std.specs.Prelude.{◌≡◌, ℕ, ◌+◌, ◌==◌, ⊤, Bool, true, false, List, [], ◌∷◌, ◌++◌, map, filter, length, bytes_eq, if◌then◌else◌, Option, Some, None, option_map}
+use Rattle.std.specs.Prelude.{◌≡◌, ℕ, ◌+◌, ◌==◌, ⊤, Bool, true, false, List, [], ◌∷◌, ◌++◌, map, filter, length, bytes_eq, if◌then◌else◌, Option, Some, None, option_map, MatchOption, IsTrue}
 use Rattle.std.specs.List.{AllZip}
 use Rattle.std.specs.List.Sorted.{IsPermutation}
 use Rattle.desk_bytes.specs.Digests.{IsArranged}
@@ -7,6 +7,7 @@ use Rattle.desk_texts.specs.declared.command.Person.{Person}
 use Rattle.desk_texts.specs.declared.shown.ShownRequest.{ShownRequest}
 use Rattle.desk_texts.specs.declared.shown.ShownReturn.{ShownReturn}
 use Rattle.desk_texts.specs.Shown.{AreByReviewer}
+use Rattle.desk_history.specs.Roles.{is_officer}
 use Rattle.desk_history.specs.Shown.{sees, shown_vote}
 use Rattle.desk_history.specs.Tables.{Tables, placed_from}
 use Rattle.desk_history.specs.declared.rows.RequestCertificateRow.{RequestCertificateRow}
@@ -14,6 +15,10 @@ use Rattle.desk_history.specs.declared.rows.RequestRow.{RequestRow}
 use Rattle.desk_history.specs.declared.rows.ReturnRow.{ReturnRow}
 use Rattle.store_reads.specs.Reads.{listed}
 use Rattle.store_requests.specs.declared.parts.Parts.{Parts}
+
+-- the person who is kept has this name and is an officer
+abbrev pub KeepsOfficer : Option Person → List ℕ → Type 0
+KeepsOfficer kept name = MatchOption kept ⊥ (λ p. (name ≡ p.name) × IsTrue (is_officer p.role))
 
 -- a returned file's row, as it is shown
 abbrev pub shown_row : ReturnRow → ShownReturn

@@ -10,15 +10,13 @@ mod officer;
 mod parts;
 mod proposed;
 mod reader;
-mod request_list;
 mod showing;
 mod whole_proposal;
 
 pub use all_people::people_of;
 pub use listing::requests_of;
 pub use minute_lines::minutes_from;
+pub use officer::officer_of;
 pub use proposed::proposals_of;
-pub use reader::reader_of;
-pub use request_list::RequestList;
 pub use showing::request;
 pub use whole_proposal::proposal_of;

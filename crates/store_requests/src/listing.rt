@@ -4,14 +4,14 @@ ghost use Rattle.desk_history.specs.People.{people};
 ghost use Rattle.desk_history.specs.Shown.{IsGiven, requests_for};
 ghost use Rattle.store_reads.specs.People.{IsOneOf};
 ghost use Rattle.store_reads.specs.Reads.{ReadsTables};
-ghost use Rattle.store_requests.specs.Lists.{HoldsShown};
+ghost use Rattle.desk_exports.specs.Readings.{HoldsShown};
 ghost use Rattle.store_requests.specs.Steps.{ListsFirst, TakesNumbered};
 ghost use Rattle.store_requests.specs.Telling.{IsReaderRefusal, TellsOf};
 ghost use Rattle.store_sql.specs.States.{DoesInside, CommitsNothing, Spares, StaysInside};
 ghost use Rattle.desk_texts.specs.declared.caller.Caller.TheVariants as callers;
 
 use crate::reader::reader_of;
-use crate::request_list::RequestList;
+use desk_exports::RequestList;
 use crate::showing::{is_shown_to, shown_of};
 use desk_bytes::Refusal;
 use desk_texts::{Person, PersonName, RequestNumber};

@@ -1,17 +1,17 @@
 //! The officers, to whom alone people, proposals and minutes are shown.
-ghost use Rattle.std.specs.Prelude.{◌≡◌, IfErr, IfOk, option_copied};
+ghost use Rattle.std.specs.Prelude.{◌≡◌, ◌≢◌, Ok, IfErr, IfOk, IsTrue, option_copied};
 ghost use Rattle.desk_history.specs.People.{people};
 ghost use Rattle.desk_history.specs.Roles.{is_officer};
 ghost use Rattle.store_reads.specs.People.{IsOneOf};
+ghost use Rattle.store_requests.specs.Steps.{KeepsOfficer};
 ghost use Rattle.store_requests.specs.Telling.{IsOfficer, IsOfficerRefusal, TellsOf};
 ghost use Rattle.store_sql.specs.States.{DoesInside, CommitsNothing, Spares, StaysInside};
 
-use crate::reader::reader_of;
 use desk_bytes::Refusal;
 use desk_texts::{Person, PersonName, Role};
 use sqlite::{Alter, Transaction};
 use std::alloc::Global;
-use store_reads::{ReadFault, own_row};
+use store_reads::{ReadFault, person_named};
 
 /// Whether the role is an officer's.
 fn is_officer(role: Role) -> bool
@@ -23,11 +23,25 @@ fn is_officer(role: Role) -> bool
     }
 }
 
-/// Whether the person of this name is an officer, or the refusal. The person isn't looked up if that
-/// is `kept_person`, who must be one of the desk's people (`value`). Takes memory for the person.
+/// Whether the person who is kept has this name and is an officer.
+fn is_kept_officer(kept_person: Option<&Person>, name: &PersonName) -> bool
+    ensures { IsTrue result → KeepsOfficer (option_copied kept_person.entry) name.now }
+{
+    let Some(person) = kept_person else {
+        return false;
+    };
+    if name.as_str() != person.name.as_str() {
+        return false;
+    }
+    is_officer(person.role)
+}
+
+/// Whether the person of this name is an officer, or the refusal. The person is looked up, unless
+/// that is `kept_person`, who must be one of the desk's people (`value`), and an officer: nobody is
+/// refused by what is kept, so only an open store refuses. Takes memory for the person.
 ///
 /// `UnknownCaller`: nobody has the name. `NotYourRole`: the person isn't an officer.
-pub(crate) fn officer_of<S: Alter>(
+pub fn officer_of<S: Alter>(
     alloc: Global,
     tx: &mut Transaction<'_, S>,
     kept_person: Option<&Person>,
@@ -38,16 +52,18 @@ pub(crate) fn officer_of<S: Alter>(
         (λ given. TellsOf (λ cs. IsOneOf (option_copied kept_person.entry) (people cs)
         → IsOfficer cs name.now given)) }
     ensures named { IfOk result (λ given. IfErr given IsOfficerRefusal) }
-    ensures inside { StaysInside S.Store tx.old.conn.now tx.new.conn.now result }
+    ensures inside { result ≢ Ok (Ok tt)
+        → StaysInside S.Store tx.old.conn.now tx.new.conn.now result }
     ensures kept { CommitsNothing S.Store tx.old.conn.now tx.new.conn.now }
     ensures survives { Spares S.Store tx.old.conn.now tx.new.conn.now }
 {
-    let found = reader_of(alloc, tx, kept_person, name)?;
+    if is_kept_officer(kept_person, name) {
+        return Ok(Ok(()));
+    }
+    let found = person_named(alloc, tx, name.as_str())?;
     let Some(reader) = found else {
         return Ok(Err(Refusal::UnknownCaller));
     };
-    // Only an open store gives Ok.
-    own_row(tx)?;
     if !is_officer(reader.role) {
         return Ok(Err(Refusal::NotYourRole));
     }

@@ -1,4 +1,4 @@
-//! The person to whom requests and proposals are shown.
+//! The person to whom requests are shown.
 ghost use Rattle.std.specs.Prelude.{◌≡◌, None, Ok, filter, option_copied};
 ghost use Rattle.desk_history.specs.People.{has_name};
 ghost use Rattle.store_reads.specs.People.{IsOneOf};
@@ -12,7 +12,7 @@ use store_reads::{ReadFault, kept_named, person_named};
 
 /// The person of this name: the one who is kept, or else the row. Only an open store gives nobody.
 /// Takes memory for the person.
-pub fn reader_of<S: Alter>(
+pub(crate) fn reader_of<S: Alter>(
     alloc: Global,
     tx: &mut Transaction<'_, S>,
     kept_person: Option<&Person>,

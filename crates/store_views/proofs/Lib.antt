@@ -10,3 +10,4 @@ mod StampLemmas
 mod FindLemmas
 mod LearningLemmas
 mod NamedLemmas
+mod ConfirmLemmas

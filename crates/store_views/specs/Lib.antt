@@ -1,3 +1,4 @@
+pub mod Confirming
 pub mod Learning
 pub mod Named
 pub mod Steps

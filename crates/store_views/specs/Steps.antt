@@ -1,5 +1,5 @@
 -- The reads of a view, part by part. Auditors needn't believe these words.
-use Rattle.std.specs.Prelude.{◌≡◌, ℕ, List, Option, Some, find, not, bytes_eq, All, IsPermutation, IsTrue, is_some}
+use Rattle.std.specs.Prelude.{◌≡◌, ℕ, List, [], Option, Some, None, find, not, bytes_eq, All, IsPermutation, IsTrue, is_some}
 use Rattle.std.specs.List.{list_any}
 use Rattle.desk_texts.specs.Callers.{caller_name}
 use Rattle.desk_texts.specs.declared.command.Call.{Call}
@@ -25,6 +25,13 @@ use Rattle.store_views.specs.Named.{is_named_person}
 -- minutes and proposals of these tables are read back as they were written
 pub record ReadsBack (t : Tables) : Type 0 where
   pub calls : All IsReadable t.calls
+  pub proposals : All IsStamped t.proposals
+
+-- no person of these tables has the empty name, no call the empty key, and proposals are read back
+-- as they were written
+pub record NamesAll (t : Tables) : Type 0 where
+  pub people : find (has_name []) t.people ≡ None
+  pub calls : find (has_key [] []) t.calls ≡ None
   pub proposals : All IsStamped t.proposals
 
 -- people, those that a call names

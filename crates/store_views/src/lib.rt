@@ -13,4 +13,4 @@ mod viewing;
 pub use lists::list_view;
 pub use remembered::Remembered;
 pub use sizes::{KnownSizes, may_put};
-pub use viewing::view;
+pub use viewing::{view, view_to_confirm};

@@ -1,5 +1,5 @@
 //! The rows that a call names, except those of the lists.
-ghost use Rattle.std.specs.Prelude.{◌≡◌, ℕ, All, IfOk, IsTrue, Some, find, option_copied};
+ghost use Rattle.std.specs.Prelude.{◌≡◌, ℕ, All, IfOk, IsSome, IsTrue, Some, find, option_copied};
 ghost use Rattle.desk_history.specs.Formed.{IsReadable};
 ghost use Rattle.desk_history.specs.People.{added_by};
 ghost use Rattle.desk_history.specs.Runs.{has_key};
@@ -221,7 +221,7 @@ fn votes_of<S: Alter>(
 }
 
 /// The proposal that the command names.
-fn proposals_of<S: Alter>(
+pub(crate) fn proposals_of<S: Alter>(
     alloc: Global,
     tx: &mut Transaction<'_, S>,
     command: &Command,
@@ -232,6 +232,8 @@ fn proposals_of<S: Alter>(
         → ShowsProposal rows.items t (spec.proposal_named command.now))) }
     ensures only { IfOk result (λ rows.
         All (λ r. spec.proposal_named command.now ≡ Some r.number) rows.items) }
+    ensures inside { IsSome (spec.proposal_named command.now)
+        → StaysInside S.Store tx.old.conn.now tx.new.conn.now result }
     ensures kept { CommitsNothing S.Store tx.old.conn.now tx.new.conn.now }
     ensures survives { Spares S.Store tx.old.conn.now tx.new.conn.now }
 {

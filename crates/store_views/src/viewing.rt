@@ -11,17 +11,19 @@ ghost use Rattle.store_views.specs.sizes.Sizes.{AreRight};
 ghost use Rattle.store_sql.specs.States.{Changes, DoesInside, CommitsNothing, Sees, Spares, StaysInside};
 ghost use Rattle.store_schema.specs.Tables.{desk_layout};
 ghost use Rattle.store_reads.specs.Failures.{IsFailure};
+ghost use Rattle.store_views.specs.Confirming.{to_confirm};
 ghost use Rattle.store_views.specs.Named.{HoldsNoRowBeyond};
 ghost use Rattle.store_views.specs.Learning.{Learns};
-ghost use Rattle.store_views.specs.Steps.{ReadsBack};
+ghost use Rattle.store_views.specs.Steps.{NamesAll, ReadsBack};
 
 use crate::lists::lists_asked;
-use crate::loading::{named_row, rows_of_call};
+use crate::loading::{named_row, proposals_of, rows_of_call};
 use crate::sizing::learn;
 use crate::{KnownSizes, Remembered};
 use desk_bytes::Refusal;
 use desk_history::minutes_are_readable;
 use desk_rules::{CallRef, View};
+use desk_texts::{Command, ProposalNumber};
 use sqlite::{Alter, Transaction};
 use std::alloc::Global;
 use store_proposals::stamps_are_above_none;
@@ -105,6 +107,81 @@ pub fn view<S: Alter>(
     minutes_are_readable();
     stamps_are_above_none();
     match rows_and_sizes(alloc, tx, remembered, call) {
+        Ok(seen) => {
+            remembered.sizes = seen.sizes;
+            Ok(seen.view)
+        }
+        Err(fault) => Err(fault.refusal()),
+    }
+}
+
+/// The rows and sizes for a Confirm of the proposal of this number, whoever gives it: no person and
+/// no earlier call is looked up.
+fn rows_to_confirm<S: Alter>(
+    alloc: Global,
+    tx: &mut Transaction<'_, S>,
+    current: &Remembered,
+    number: ProposalNumber,
+) -> Result<Seen, ReadFault>
+    ensures same_reference { tx.new.conn.ghost_name ≡ tx.old.conn.ghost_name }
+    ensures value { DoesInside S.Store tx.old.conn.now tx.new.conn.now result
+        (λ seen. ReadsTables (λ t. NamesAll t → IsCurrent current.now t
+        → Shows seen.view t (to_confirm number) × AreRight seen.sizes t)) }
+    ensures only { IfOk result (λ seen. HoldsNoRowBeyond seen.view (to_confirm number)) }
+    ensures inside { StaysInside S.Store tx.old.conn.now tx.new.conn.now result }
+    ensures kept { CommitsNothing S.Store tx.old.conn.now tx.new.conn.now }
+    ensures survives { Spares S.Store tx.old.conn.now tx.new.conn.now }
+{
+    let command = Command::Confirm(number);
+    let proposals = proposals_of(alloc, tx, &command)?;
+    let proposal = named_row(&proposals, &command);
+    let lists = lists_asked(alloc, tx, &command, proposal)?;
+    let known = learn(tx, current.sizes, &command)?;
+    let view = View {
+        stamp: current.stamp,
+        sizes: known.sizes(),
+        people: Vec::new(alloc),
+        calls: Vec::new(alloc),
+        requests: Vec::new(alloc),
+        votes: Vec::new(alloc),
+        proposals,
+        lists,
+    };
+    Ok(Seen { view, sizes: known })
+}
+
+/// The rows and sizes that show the tables for a Confirm of the proposal of this number, whoever
+/// gives it, as `view` does for a call: the view is one for a caller and a key that no call has, so
+/// neither is looked up. Takes memory for the rows.
+///
+/// `Store`: the store failed, or a row isn't one that the desk writes.
+pub fn view_to_confirm<S: Alter>(
+    alloc: Global,
+    tx: &mut Transaction<'_, S>,
+    remembered: &mut Remembered,
+    number: ProposalNumber,
+) -> Result<View, Refusal>
+    ensures same_reference { tx.new.conn.ghost_name ≡ tx.old.conn.ghost_name }
+    ensures value { DoesInside S.Store tx.old.conn.now tx.new.conn.now result
+        (λ v before after. Changes desk_layout contents before after (λ t. t)) }
+    ensures shown { DoesInside S.Store tx.old.conn.now tx.new.conn.now result
+        (λ v before after. (owner : List ℕ) (cs : History) → IsHistory cs
+        → Sees desk_layout before (contents (tables owner cs))
+        → IsCurrent remembered.old (tables owner cs)
+        → Shows v (tables owner cs) (to_confirm number)
+        × IsCurrent remembered.new (tables owner cs)) }
+    ensures only { IfOk result (λ v. HoldsNoRowBeyond v (to_confirm number)) }
+    ensures inside { StaysInside S.Store tx.old.conn.now tx.new.conn.now result }
+
+    ensures failed { IfErr result IsFailure }
+    ensures unlearnt { OnErr result (remembered.new ≡ remembered.old) }
+
+    ensures kept { CommitsNothing S.Store tx.old.conn.now tx.new.conn.now }
+    ensures survives { Spares S.Store tx.old.conn.now tx.new.conn.now }
+{
+    minutes_are_readable();
+    stamps_are_above_none();
+    match rows_to_confirm(alloc, tx, remembered, number) {
         Ok(seen) => {
             remembered.sizes = seen.sizes;
             Ok(seen.view)

@@ -2,7 +2,9 @@
 ghost use Rattle.std.specs.Prelude.{◌≡◌};
 ghost use Rattle.desk_history.specs.Writes.{written};
 ghost use Rattle.desk_history.specs.declared.write.Write.TheVariants as writes;
-ghost use Rattle.store_sql.specs.States.{CommitsNothing, Spares, StaysInside};
+ghost use Rattle.store_sql.specs.Effects.{Inserts};
+ghost use Rattle.store_sql.specs.States.{CommitsNothing, DoesInside, Spares, StaysInside};
+ghost use Rattle.store_writes.specs.Founding.{PutsDesk, migrated_params, own_params};
 ghost use Rattle.store_writes.specs.Steps.{Begins, Founds, Steps, unmigrated, with_migrated};
 
 use crate::stored::integer_value;
@@ -21,6 +23,8 @@ use store_sql::{StoreFault, insert};
 fn put_own<S: Alter>(tx: &mut Transaction<'_, S>, owner: &Guid) -> Result<(), StoreFault>
     ensures same_reference { tx.new.conn.ghost_name ≡ tx.old.conn.ghost_name }
     ensures value { Founds S.Store tx.old.conn.now tx.new.conn.now result (unmigrated owner.now) }
+    ensures puts { DoesInside S.Store tx.old.conn.now tx.new.conn.now result
+        (λ _. Inserts INSERT_DESK.now (own_params owner.now)) }
     ensures inside { StaysInside S.Store tx.old.conn.now tx.new.conn.now result }
     ensures kept { CommitsNothing S.Store tx.old.conn.now tx.new.conn.now }
     ensures survives { Spares S.Store tx.old.conn.now tx.new.conn.now }
@@ -38,6 +42,8 @@ fn put_own<S: Alter>(tx: &mut Transaction<'_, S>, owner: &Guid) -> Result<(), St
 pub fn put_migrated<S: Alter>(tx: &mut Transaction<'_, S>, calls: u64) -> Result<(), StoreFault>
     ensures same_reference { tx.new.conn.ghost_name ≡ tx.old.conn.ghost_name }
     ensures value { Steps S.Store tx.old.conn.now tx.new.conn.now result (with_migrated calls) }
+    ensures puts { DoesInside S.Store tx.old.conn.now tx.new.conn.now result
+        (λ _. Inserts INSERT_MIGRATED.now (migrated_params calls)) }
     ensures inside { StaysInside S.Store tx.old.conn.now tx.new.conn.now result }
     ensures kept { CommitsNothing S.Store tx.old.conn.now tx.new.conn.now }
     ensures survives { Spares S.Store tx.old.conn.now tx.new.conn.now }
@@ -47,11 +53,13 @@ pub fn put_migrated<S: Alter>(tx: &mut Transaction<'_, S>, calls: u64) -> Result
     Ok(())
 }
 
-/// Inserts the rows of a desk without calls into tables without rows. The owner is that of each
-/// entry that the desk exports.
+/// Inserts the rows of a desk without calls into tables without rows, whatever other tables there
+/// are (`puts`). The owner is that of each entry that the desk exports.
 pub fn put_desk<S: Alter>(tx: &mut Transaction<'_, S>, owner: &Guid) -> Result<(), StoreFault>
     ensures same_reference { tx.new.conn.ghost_name ≡ tx.old.conn.ghost_name }
     ensures value { Begins S.Store tx.old.conn.now tx.new.conn.now result owner.now }
+    ensures puts { DoesInside S.Store tx.old.conn.now tx.new.conn.now result
+        (λ _. PutsDesk owner.now) }
     ensures inside { StaysInside S.Store tx.old.conn.now tx.new.conn.now result }
     ensures kept { CommitsNothing S.Store tx.old.conn.now tx.new.conn.now }
     ensures survives { Spares S.Store tx.old.conn.now tx.new.conn.now }

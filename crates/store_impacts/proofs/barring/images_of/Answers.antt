@@ -1,4 +1,4 @@
-use Rattle.std.proofs.Common.{◌≡◌, ◌∙◌, ◌+◌, ◌++◌, [], take, rules, refl, sym, subst, arith}
+use Rattle.std.proofs.Common.{◌≡◌, ◌∙◌, ◌+◌, ◌++◌, ◌<◌, [], length, take, rules, refl, sym, subst, arith}
 use Rattle.std.proofs.lemmas.List.{take_all}
 use Rattle.sqlite.specs.Held.{state}
 use Rattle.sqlite.specs.State.{HasCleanDisk}
@@ -6,7 +6,7 @@ use Rattle.sqlite.proofs.StateLemmas.{survives_then}
 use Rattle.store_reads.specs.Reads.{listed}
 use Rattle.store_requests.specs.Telling.{TellsOf}
 use Rattle.store_impacts.specs.Barring.{AreBarred, IsBarred}
-use Rattle.store_impacts.proofs.LoopLemmas.{bars_more, bars_none}
+use Rattle.store_impacts.proofs.LoopLemmas.{bars_more, bars_none, has_items}
 use Rattle.store_impacts.proofs.TellsLemmas.{of_none, of_so, of_then}
 use Rattle.store_impacts.proofs.barring.images_of.Goals as goal
 
@@ -15,7 +15,7 @@ loop-image-init g c =
     let entries = g.E.Standing.standing c.args.entries.now in
     let first = state g.S.Store c.args.tx.now.conn.now in
     let empty : c.new-found.result.items ≡ [] = search rules in
-    (refl, search rules, λ clean inside. subst (λ l. TellsOf (AreBarred entries [] l) first first) (sym empty) (of_none first (AreBarred entries [] []) inside (λ cs. bars_none entries cs)))
+    (refl, search rules, λ clean inside. subst (λ l. TellsOf (AreBarred entries [] l) first first) (sym empty) (of_none first (AreBarred entries [] []) inside (λ cs. bars_none entries cs)), λ more. absurd (omega arith))
 
 pub loop-image-preserved : goal.loop-image-preserved
 loop-image-preserved g c =
@@ -40,7 +40,15 @@ loop-image-preserved g c =
           (of_so first new (λ cs. AreBarred entries (take i images) had cs × IsBarred entries image shown cs) (AreBarred entries (take (i + 1) images) (had ++ listed shown))
           (λ cs both. bars_more entries cs images i image had shown c.loop-image-test.true c.image-item.is both.0 both.1)
           (of_then first mid new (AreBarred entries (take i images) had) (IsBarred entries image shown) stood it)),
+      λ some clean inside.
+          let late : HasCleanDisk mid = omega (arith, did.survives.clean, clean) in
+          did.inside clean (at.invariant.2 late inside).kept.inside,
     )
+
+pub returns-clause-inside : goal.returns-clause-inside
+returns-clause-inside g c some clean inside =
+    let low : 0 < length c.args.touched.now = has_items c.args.touched.now some in
+    c.loop-image.invariant.3 (omega (arith, low, c.loop-image-test.false)) clean inside
 
 pub returns-clause-value : goal.returns-clause-value
 returns-clause-value g c clean inside =

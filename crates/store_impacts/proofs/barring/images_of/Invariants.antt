@@ -1,4 +1,4 @@
-use Rattle.std.proofs.Common.{◌≡◌, take, IsTrue}
+use Rattle.std.proofs.Common.{◌≡◌, ◌<◌, take, IsTrue}
 use Rattle.sqlite.specs.Held.{state}
 use Rattle.sqlite.specs.State.{HasCleanDisk, Survives}
 use Rattle.store_requests.specs.Telling.{TellsOf}
@@ -12,3 +12,4 @@ invariant-loop-image g l =
     (l.tx.conn.ghost_name ≡ l.fn.tx.conn.ghost_name) × Survives first now (λ _. ⊥)
     × (HasCleanDisk now → IsTrue first.in_transaction
     → TellsOf (AreBarred (g.E.Standing.standing l.entries) (take l.image-index l.touched) l.found.items) first now)
+    × (0 < l.image-index → HasCleanDisk now → IsTrue first.in_transaction → IsTrue now.is_open × IsTrue now.in_transaction)

@@ -1,13 +1,15 @@
-use Rattle.std.proofs.Common.{ap, arith}
+use Rattle.std.proofs.Common.{[], ap, arith}
 use Rattle.sqlite.specs.Held.{state}
 use Rattle.sqlite.specs.State.{HasCleanDisk}
 use Rattle.store_schema.proofs.SelectFacts as facts
+use Rattle.store_schema.specs.declared.selecting.TheConstants.{SELECT_CALLS}
 use Rattle.store_schema.specs.Tables.{desk_layout}
 use Rattle.store_schema.specs.rows.Histories.{rows_of}
 use Rattle.store_impacts.specs.Steps.{Seen}
 use Rattle.store_impacts.specs.declared.passing.Pass.{Pass}
 use Rattle.store_impacts.proofs.CallLemmas.{answer_is}
 use Rattle.store_impacts.proofs.PassLemmas.{passed_rows}
+use Rattle.store_impacts.proofs.QueryLemmas.{never_spares, reads_calls}
 use Rattle.store_impacts.proofs.passing.touched.Goals as goal
 
 pub returns-in-Ok-clause-ok : goal.returns-in-Ok-clause-ok
@@ -25,16 +27,16 @@ pub returns-in-Ok-clause-same : goal.returns-in-Ok-clause-same
 returns-in-Ok-clause-same g c owner cs was = c.in-Ok.ensures.same desk_layout (rows_of owner cs) (λ schema fits. (facts.select_calls schema fits).plain) was
 
 pub returns-in-Ok-clause-spares : goal.returns-in-Ok-clause-spares
-returns-in-Ok-clause-spares g c owner cs was = c.in-Ok.ensures.spares desk_layout (rows_of owner cs) (λ schema fits. (facts.select_calls schema fits).plain) was
+returns-in-Ok-clause-spares g c = never_spares (state g.S.Store c.args.conn.now) (state g.S.Store c.stream.new.conn) SELECT_CALLS.now [] reads_calls c.in-Ok.ensures.survives
 
 pub returns-in-Err-Store-clause-same : goal.returns-in-Err-Store-clause-same
 returns-in-Err-Store-clause-same g c owner cs was = c.in-Err-Store.ensures.same desk_layout (rows_of owner cs) (λ schema fits. (facts.select_calls schema fits).plain) was
 
 pub returns-in-Err-Store-clause-spares : goal.returns-in-Err-Store-clause-spares
-returns-in-Err-Store-clause-spares g c owner cs was = c.in-Err-Store.ensures.spares desk_layout (rows_of owner cs) (λ schema fits. (facts.select_calls schema fits).plain) was
+returns-in-Err-Store-clause-spares g c = never_spares (state g.S.Store c.args.conn.now) (state g.S.Store c.stream.new.conn) SELECT_CALLS.now [] reads_calls c.in-Err-Store.ensures.survives
 
 pub returns-clause-same : goal.returns-clause-same
 returns-clause-same g c owner cs was = c.in-Err-Taker.ensures.same desk_layout (rows_of owner cs) (λ schema fits. (facts.select_calls schema fits).plain) was
 
 pub returns-clause-spares : goal.returns-clause-spares
-returns-clause-spares g c owner cs was = c.in-Err-Taker.ensures.spares desk_layout (rows_of owner cs) (λ schema fits. (facts.select_calls schema fits).plain) was
+returns-clause-spares g c = never_spares (state g.S.Store c.args.conn.now) (state g.S.Store c.stream.new.conn) SELECT_CALLS.now [] reads_calls c.in-Err-Taker.ensures.survives

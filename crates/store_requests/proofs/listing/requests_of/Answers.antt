@@ -9,7 +9,7 @@ use Rattle.desk_history.specs.Shown.{IsGiven, requests_for}
 use Rattle.store_reads.specs.People.{IsOneOf}
 use Rattle.store_reads.specs.Reads.{ReadsTables, listed}
 use Rattle.store_reads.proofs.TellsLemmas.{tells_then}
-use Rattle.store_requests.specs.Lists.{HoldsShown}
+use Rattle.desk_exports.specs.Readings.{HoldsShown}
 use Rattle.store_requests.specs.Steps.{ListsFirst}
 use Rattle.store_requests.proofs.ListingLemmas.{gives_all, gives_nobody}
 use Rattle.store_requests.proofs.TellsLemmas.{tells_of}

@@ -11,7 +11,7 @@ use Rattle.store_requests.proofs.minute_lines.lines_after.Goals as goal
 pub loop-lines-init : goal.loop-lines-init
 loop-lines-init g c =
     let first = state g.S.Store c.args.tx.now.conn.now in
-    (omega arith, refl, search rules, λ clean inside. tells_none first (λ t. HasFirst t c.args.calls 0 c.new-text.result.items) inside (λ t. subst (HasFirst t c.args.calls 0) (sym c.new-text.ensures.items) (no_lines t c.args.calls)))
+    (omega arith, refl, search rules, λ clean inside. tells_none first (λ t. HasFirst t c.args.calls 0 c.new-text.result.items) inside (λ t. subst (HasFirst t c.args.calls 0) (sym c.new-text.ensures.items) (no_lines t c.args.calls)), λ more. absurd (omega arith))
 
 pub loop-lines-preserved : goal.loop-lines-preserved
 loop-lines-preserved g c =
@@ -37,6 +37,9 @@ loop-lines-preserved g c =
           tells_so first new (λ t. HasFirst t k n text × (calls_at t (k + n + 1) ≡ listed found)) (λ t. HasFirst t k (n + 1) more)
           (λ t both. first_more t k n text more call both.0 (both.1 ∙ ap listed some) pushed)
           (tells_then first mid new (λ t. HasFirst t k n text) (λ t. calls_at t (k + n + 1) ≡ listed found) stood (did.value clean stood.kept.inside)),
+      λ some clean inside.
+          let late : HasCleanDisk mid = omega (arith, did.survives.clean, clean) in
+          did.inside clean (at.invariant.3 late inside).kept.inside,
     )
 
 pub returns-in_default-clause-value : goal.returns-in_default-clause-value
@@ -67,3 +70,13 @@ returns-clause-value g c clean inside =
     let full : n ≡ 1000 = omega (arith, low, c.loop-lines-test.false) in
     tells_so (state g.S.Store c.args.tx.now.conn.now) (state g.S.Store at.tx.conn.now) (λ t. HasFirst t k n text) (λ t. HasLines t k text)
     (λ t it. record { lines = n; most = low; first = it; ends = inl full }) (at.invariant.3 clean inside)
+
+pub returns-in_default-clause-inside : goal.returns-in_default-clause-inside
+returns-in_default-clause-inside g c clean inside =
+    let at = c.loop-lines in
+    let did = c.in_ok-call.ensures in
+    let late : HasCleanDisk (state g.S.Store at.tx.conn.now) = omega (arith, did.survives.clean, clean) in
+    did.inside clean (at.invariant.3 late inside).kept.inside
+
+pub returns-clause-inside : goal.returns-clause-inside
+returns-clause-inside g c clean inside = c.loop-lines.invariant.4 (omega (arith, c.loop-lines-test.false)) clean inside

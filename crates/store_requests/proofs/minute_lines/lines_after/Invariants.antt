@@ -1,4 +1,4 @@
-use Rattle.std.proofs.Common.{◌≡◌, ◌≤◌, ◌-◌, IsTrue}
+use Rattle.std.proofs.Common.{◌≡◌, ◌<◌, ◌≤◌, ◌-◌, IsTrue}
 use Rattle.sqlite.specs.Held.{state}
 use Rattle.sqlite.specs.State.{HasCleanDisk, Survives}
 use Rattle.store_reads.specs.Reads.{ReadsTables}
@@ -11,6 +11,7 @@ invariant-loop-lines g l =
     let now = state g.S.Store l.tx.conn.now in
     (l.lines ≤ 1000) × (l.tx.conn.ghost_name ≡ l.fn.tx.conn.ghost_name) × Survives first now (λ _. ⊥)
     × (HasCleanDisk now → IsTrue first.in_transaction → ReadsTables (λ t. HasFirst t l.calls l.lines l.text.items) first now)
+    × (0 < l.lines → HasCleanDisk now → IsTrue first.in_transaction → IsTrue now.is_open × IsTrue now.in_transaction)
 
 abbrev pub decreases-loop-lines : goal.decreases-loop-lines
 decreases-loop-lines g l = 1000 - l.lines

@@ -1,4 +1,5 @@
-use Rattle.std.proofs.Common.{rules, ◌≡◌, ◌++◌, filter, sym, subst, All, Some}
+use Rattle.std.proofs.Common.{rules, ◌≡◌, ◌++◌, filter, sym, subst, All, Some, None}
+use Rattle.std.specs.Prelude.{IsSome}
 use Rattle.sqlite.specs.Held.{state}
 use Rattle.store_proposals.specs.Reading.{IsStamped}
 use Rattle.store_reads.specs.Reads.{ReadsTables, listed}
@@ -22,3 +23,8 @@ returns-clause-value g c clean inside =
     (tells_so first last (λ t. All IsStamped t.proposals → filter (is_proposal_row number) t.proposals ≡ listed found)
     (λ t. All IsStamped t.proposals → ShowsProposal rows t (Some number))
     (λ t read stamped. one_proposal rows t number found is (read stamped)) (c.in_ok-row.ensures.value clean inside))
+
+pub returns-in_default-clause-inside : goal.returns-in_default-clause-inside
+returns-in_default-clause-inside g c named =
+    let none : proposal_named c.args.command.now ≡ None = search (rules, c.proposal_of.ensures, c.in_default.is) in
+    absurd (let clash = subst IsSome none named in cc)

@@ -12,12 +12,15 @@ use Rattle.store_writes.specs.Steps.{unmigrated}
 use Rattle.store_writes.proofs.RowLemmas.{desk_in}
 use Rattle.store_writes.proofs.entering.put_own.Goals as goal
 
+pub returns-clause-puts : goal.returns-clause-puts
+returns-clause-puts g c clean inside =
+    rw (c.params-to_sql.ensures, c.params-to_sql-2.ensures, c.params-to_sql-3.ensures, c.params-to_sql-4.ensures, c.params-to_sql-5.ensures, c.in_ok-stamp.ensures.value, c.value.ensures.value, c.original.ensures, c.as_bytes.ensures.value) at (c.in_ok-insert.ensures.value clean inside)
+
 pub returns-clause-value : goal.returns-clause-value
 returns-clause-value g c clean inside =
     let owner = c.args.owner.now in
     let row = desk_values (unmigrated owner).desk in
     turns desk_layout (λ (_ : ⊤). no_rows desk_schema.tables) (λ _. contents (unmigrated owner)) (change_at 0 (λ rows. row ∷ rows))
     (state g.S.Store c.args.tx.now.conn.now) (state g.S.Store c.insert.new.tx.conn.now)
-    (rw (c.params-to_sql.ensures, c.params-to_sql-2.ensures, c.params-to_sql-3.ensures, c.params-to_sql-4.ensures, c.params-to_sql-5.ensures, c.in_ok-stamp.ensures.value, c.value.ensures.value, c.original.ensures, c.as_bytes.ensures.value) at (c.in_ok-insert.ensures.value clean inside)
-    desk_layout 0 desk (values_of desk) row insert_desk (desk_in owner))
+    (returns-clause-puts g c clean inside desk_layout 0 desk (values_of desk) row insert_desk (desk_in owner))
     (λ _. refl)

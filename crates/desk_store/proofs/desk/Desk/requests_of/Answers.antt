@@ -1,7 +1,7 @@
 use Rattle.std.proofs.Common.{sym, subst, Ok, Err, rules}
 use Rattle.desk_history.specs.People.{people}
 use Rattle.desk_history.specs.Shown.{IsGiven, requests_for}
-use Rattle.store_requests.specs.Lists.{HoldsShown}
+use Rattle.desk_exports.specs.Readings.{HoldsShown}
 use Rattle.store_reads.specs.Failures.{IsFailure}
 use Rattle.store_reads.specs.People.{IsOneOf}
 use Rattle.desk_store.proofs.PersonLemmas.{reads_taken, without_person}

@@ -3,7 +3,7 @@ use Rattle.sqlite.specs.Held.{state}
 use Rattle.desk_history.specs.People.{people}
 use Rattle.desk_history.specs.Shown.{IsGiven, requests_for}
 use Rattle.desk_texts.specs.declared.caller.Caller.TheVariants as callers
-use Rattle.store_requests.specs.Lists.{HoldsShown}
+use Rattle.desk_exports.specs.Readings.{HoldsShown}
 use Rattle.store_reads.specs.People.{IsOneOf}
 use Rattle.store_requests.specs.Telling.{TellsOf}
 use Rattle.desk_store.proofs.QuestionLemmas.{of_history}

@@ -1,6 +1,6 @@
 //! Lists that requests are collected into.
 ghost use Rattle.std.specs.Prelude.{◌≡◌, ◌++◌, ◌∷◌, [], List, OnOk};
-ghost use Rattle.desk_texts.specs.declared.shown.ShownRequest.{ShownRequest as Shown};
+ghost use Rattle.desk_texts.specs.declared.shown.ShownRequest.{ShownRequest};
 
 use desk_texts::ShownRequest;
 use std::alloc::{AllocError, Global};
@@ -8,7 +8,7 @@ use std::alloc::{AllocError, Global};
 /// What requests are collected into, one after another.
 pub trait RequestList {
     /// The requests that it holds, in their order.
-    ghost holds: { Self → List Shown → Type 0 };
+    ghost holds: { Self → List ShownRequest → Type 0 };
 
     /// An empty one.
     fn new(alloc: Global) -> Self
@@ -16,7 +16,7 @@ pub trait RequestList {
 
     /// Adds a request at the end. Fails if memory is refused; the list's contents are then unknown.
     fn push(&mut self, shown: ShownRequest) -> Result<(), AllocError>
-        ensures { (before : List Shown) → holds self.old before
+        ensures { (before : List ShownRequest) → holds self.old before
             → OnOk result (holds self.new (before ++ shown ∷ [])) };
 }
 

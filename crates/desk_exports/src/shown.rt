@@ -1,0 +1,33 @@
+//! What a person is shown of a desk.
+use crate::octets::Octets;
+use crate::shown_people::ShownPeople;
+use crate::shown_proposals::ShownProposals;
+use desk_history::{ProposalRow, ShownImpact};
+use desk_texts::{ProposalNumber, ShownRequest};
+
+/// What a person is shown, each by the reading of its name. An `L` holds the requests, which may be
+/// written into it as they are read.
+#[derive(Debug, Drop)]
+pub enum Shown<L> {
+    /// Ascending by number.
+    Requests(L),
+    Request(ShownRequest),
+    /// Ascending by number.
+    Proposals(ShownProposals),
+    /// With all that it names.
+    Proposal(ProposalRow),
+    /// Of the proposal of this number.
+    Impact(ProposalNumber, ShownImpact),
+    /// Signature lists.
+    Dbx(Octets),
+    /// Signature lists.
+    Db(Octets),
+    /// SBAT text.
+    Level(Octets),
+    /// Fourteen lines of text.
+    Report(Octets),
+    /// Lines of the minutes.
+    Minutes(Octets),
+    /// Ascending by name.
+    People(ShownPeople),
+}
