@@ -14,9 +14,9 @@ pub fn run_init(rt: &HostRuntime, db: &str, owner: &Guid) -> Ending {
 }
 
 /// Adds a person: `add_person`.
-pub fn run_add(rt: &HostRuntime, db: &str, key: &Key, person: Person) -> Ending {
+pub fn run_add(rt: &HostRuntime, db: &str, key: Key, person: Person) -> Ending {
     match BufWriter::new(rt.alloc(), rt.stdout()) {
-        Ok(mut out) => add_person(rt, db, key, person, &mut out),
+        Ok(mut out) => add_person(rt, db, &key, person, &mut out),
         Err(_) => Ending::without_desk(Refusal::NoMemory),
     }
 }

@@ -197,10 +197,22 @@ fn tell_unread(rt: &HostRuntime, fault: WordsFault) -> u8 {
     }
 }
 
+/// The words after the program's name.
+pub struct Given {
+    words: Vec<String>,
+}
+
+// It is written out, so that the program does not prove again how texts are dropped.
+impl Drop for Given {
+    fn drop(self) {
+        let Given { words: _ } = self;
+    }
+}
+
 /// Reads the words after the program's name, and their values. A subcommand that needs no desk is
 /// done. Err: the program ends with this status, and what there was to tell was told.
-pub fn read_job<'a>(rt: &HostRuntime, given: &'a [String]) -> Result<Job<'a>, u8> {
-    let line = match words(rt.alloc(), given) {
+pub fn read_job<'a>(rt: &HostRuntime, given: &'a Given) -> Result<Job<'a>, u8> {
+    let line = match words(rt.alloc(), given.words.as_slice()) {
         Ok(line) => line,
         Err(fault) => return Err(tell_unread(rt, fault)),
     };
@@ -221,9 +233,9 @@ fn given_in(rt: &(impl Env + AllocGlobal)) -> io::Result<Vec<String>> {
 }
 
 /// The words after the program's name. Err: the program ends with this status, and why was told.
-pub fn given_words(rt: &HostRuntime) -> Result<Vec<String>, u8> {
+pub fn given_words(rt: &HostRuntime) -> Result<Given, u8> {
     match given_in(rt) {
-        Ok(given) => Ok(given),
+        Ok(words) => Ok(Given { words }),
         Err(error) if error.kind() == io::ErrorKind::OutOfMemory => {
             Err(tell_fault(rt, Fault::from(Refusal::NoMemory)))
         }

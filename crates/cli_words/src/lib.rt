@@ -8,7 +8,7 @@ mod telling;
 mod values;
 mod words_reading;
 
-pub use jobs::{Job, given_words, read_job};
+pub use jobs::{Given, Job, given_words, read_job};
 pub use line::{AuditWords, PersonWords, ServeWords, Words, WordsFault};
 pub use telling::tell_ending;
 pub use values::{

@@ -12,7 +12,7 @@ use std::process::ExitCode;
 fn run(rt: &HostRuntime, job: Job<'_>) -> Ending {
     match job {
         Job::Init { db, owner } => run_init(rt, db, &owner),
-        Job::Add { db, key, person } => run_add(rt, db, &key, person),
+        Job::Add { db, key, person } => run_add(rt, db, key, person),
         Job::Serve { db, place } => run_serve(rt, db, place.port, place.count),
         Job::Answer { db } => run_answer(rt, db),
         Job::Judge { db, file } => run_verdict(rt, db, file),
@@ -27,7 +27,7 @@ fn main(rt: HostRuntime) -> ExitCode {
         Ok(given) => given,
         Err(status) => return ExitCode::from(status),
     };
-    match read_job(&rt, given.as_slice()) {
+    match read_job(&rt, &given) {
         Ok(job) => ExitCode::from(tell_ending(&rt, run(&rt, job))),
         Err(status) => ExitCode::from(status),
     }
