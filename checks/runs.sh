@@ -87,7 +87,12 @@ run 0 nothing '' nothing init desks/bea.db "$owner"
 run 0 added '' token person desks/ann.db ann officer k1
 run 0 minutes '' nothing minutes desks/ann.db
 run 0 nothing '' nothing minutes desks/bea.db
-rm -f desks/ann.db desks/ann.db-wal desks/bea.db desks/bea.db-wal
+# Both files of a new desk are for their user alone, whatever the mask.
+(umask 000 && "$program" init desks/cyn.db "$owner") || fail "no desk was made"
+for file in desks/*.db desks/*.db-wal; do
+    [ ! -e "$file" ] || [ "$(stat -c %a "$file")" = 600 ] || fail "$file has the mode $(stat -c %a "$file")"
+done
+rm -f desks/*.db desks/*.db-wal
 [ "$(there)" = "$before" ] || fail "other files were made: $(there)"
 
 # A writer that is full: /dev/full accepts no byte.

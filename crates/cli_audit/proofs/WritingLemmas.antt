@@ -14,7 +14,7 @@ use Rattle.cli_lines.specs.declared.ending.Outcome.{Outcome}
 use Rattle.cli_lines.specs.declared.fault.Fault.{Fault}
 use Rattle.cli_audit.specs.Audits.{ForEachCounted, WritesCounted}
 use Rattle.cli_audit.specs.Lines.{audit_lines, told_lines, told_of}
-use Rattle.cli_audit.specs.declared.told.Told.{Told}
+use Rattle.cli_audit.specs.declared.summary.Summary.{Summary}
 
 -- all that was written whole, and then flushed, is a beginning
 pub flushed_begins : (a b c : Option (List ℕ)) (xs : List ℕ) → Appends a b xs → Keeps b c → AppendsBeginning a c xs
@@ -24,7 +24,7 @@ flushed_begins a b c xs written kept =
 
 module _ {S : Type 0} (g : Ghosts S) (desk : Desk S) (calls : ℕ) where
   -- the lines of what an audit tells are those of each history
-  pub lines_written : (told : Told) (before after : Option (List ℕ)) (r : Result Unit Fault)
+  pub lines_written : (told : Summary) (before after : Option (List ℕ)) (r : Result Unit Fault)
       → ForEachShown g desk (λ owner cs. length cs ≡ calls → told ≡ told_of owner cs)
       → OnOk r (Appends before after (told_lines told)) → OnErr r (AppendsBeginning before after (told_lines told))
       → WritesCounted g desk calls audit_lines before after r

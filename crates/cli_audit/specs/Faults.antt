@@ -1,10 +1,10 @@
 -- The rows of the table of refusals for an audit.
-use Rattle.std.specs.Prelude.{◌≡◌, ◌⊎◌, ℕ, Some}
+use Rattle.std.specs.Prelude.{ℕ, Some}
 use Rattle.desk_audit.specs.declared.auditing.AuditFault.{AuditFault}
 use Rattle.desk_audit.specs.declared.auditing.AuditFault.TheVariants.{Device, Line}
 use Rattle.desk_bytes.specs.declared.refusal.Refusal.{Refusal}
 use Rattle.desk_bytes.specs.declared.refusal.Refusal.TheVariants as refusals
-use Rattle.cli_lines.specs.Faults.{row_of}
+use Rattle.cli_lines.specs.Faults.{IsFileRefusal, row_of}
 use Rattle.cli_lines.specs.declared.fault.Fault.{Fault}
 
 -- own: the row of a line of minutes that is wrong, by its number
@@ -16,6 +16,6 @@ abbrev pub of_audit : AuditFault → Fault
 of_audit (Line n) = wrong_line n
 of_audit (Device refusal) = row_of refusal
 
--- own: a file isn't opened, or memory was refused
+-- the minutes aren't opened
 abbrev pub IsUnopenedRefusal : Refusal → Type 0
-IsUnopenedRefusal refusal = (refusal ≡ refusals.NoMemory) ⊎ (refusal ≡ refusals.File)
+IsUnopenedRefusal = IsFileRefusal

@@ -5,11 +5,11 @@ use Rattle.sha2.specs.Sha256.{sha256}
 use Rattle.desk_history.specs.Calls.{History}
 use Rattle.desk_exports.specs.Exports.{exported}
 use Rattle.desk_exports.specs.declared.export.Export.TheVariants as exports
-use Rattle.cli_audit.specs.declared.told.Told.{Told}
+use Rattle.cli_audit.specs.declared.summary.Summary.{Summary}
 
 -- own: what an audit tells of a history's minutes: how many lines they have, their SHA-256, and that
 -- of each export of a desk with this owner
-abbrev pub told_of : List ℕ → History → Told
+abbrev pub told_of : List ℕ → History → Summary
 told_of owner cs = record {
   calls = length cs;
   minutes = sha256 (exported exports.Minutes owner cs);
@@ -19,7 +19,7 @@ told_of owner cs = record {
 }
 
 -- own: `calls N`, `minutes HEX`, `dbx HEX`, `db HEX` and `level HEX`
-unfoldable pub told_lines : Told → List ℕ
+unfoldable pub told_lines : Summary → List ℕ
 told_lines told =
     codes "calls " ++ decimal told.calls ++ codes "\nminutes " ++ encode_lower told.minutes
     ++ codes "\ndbx " ++ encode_lower told.dbx ++ codes "\ndb " ++ encode_lower told.db

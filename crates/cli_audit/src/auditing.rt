@@ -7,13 +7,12 @@ ghost use Rattle.cli_audit.specs.Faults.{IsUnopenedRefusal};
 
 use crate::fault::row;
 use crate::writing::write_last;
-use cli_lines::{Buffered, Fault};
+use cli_lines::{Buffered, Fault, open_file};
 use desk_audit::{Audited, audit};
 use desk_bytes::{Guid, Refusal};
 use desk_exports::Export;
 use std::alloc::Global;
-use std::fs;
-use std::io::{BufRead, BufReader, ErrorKind, Read};
+use std::io::{BufRead, BufReader, Read};
 use std::rt::Files;
 
 /// Follows the minutes of a reader, and writes what an audit writes of them.
@@ -60,19 +59,6 @@ pub fn audit_input<R: Read + Drop, W: Buffered>(
     }
 }
 
-/// Opens a file of minutes.
-fn open<R: Files + AllocGlobal>(rt: &R, path: &str) -> Result<R::File, Fault>
-    ensures { IfErr result (IsRow IsUnopenedRefusal) }
-{
-    match fs::open(rt, path) {
-        Ok(file) => Ok(file),
-        Err(error) if error.kind() == ErrorKind::OutOfMemory => {
-            Err(Fault::from(Refusal::NoMemory))
-        }
-        Err(_) => Err(Fault::from(Refusal::File)),
-    }
-}
-
 /// Follows the minutes in a file, as `audit_input` does.
 ///
 /// File: it can't be opened, which includes that it doesn't exist. Otherwise as for `audit_input`.
@@ -89,7 +75,7 @@ pub fn audit_file<R: Files + AllocGlobal, W: Buffered>(
         (W.contents writer.old) (W.contents writer.new) result) }
     ensures flushed { OnOk result (W.flushed writer.new) }
 {
-    match open(rt, path) {
+    match open_file(rt, path) {
         Ok(file) => audit_input(rt.alloc(), owner, file, what, writer),
         Err(fault) => Err(fault),
     }

@@ -8,7 +8,7 @@ ghost use Rattle.desk_store.specs.Desks.{ForEachShown, KeepsDesk};
 ghost use Rattle.cli_audit.specs.Lines.{told_of};
 
 use crate::hashing::Hashing;
-use crate::told::Told;
+use crate::summary::Summary;
 use desk_bytes::{Digest, Refusal};
 use desk_exports::Export;
 use desk_store::Desk;
@@ -34,7 +34,7 @@ fn digest_of<S: Alter + Drop>(desk: &mut Desk<S>, what: Export) -> Result<Digest
 /// What an audit tells of the minutes of a desk, of so many calls. Takes memory for one row.
 ///
 /// `NoMemory`, `Store`, `Reopen`: as for `digest_of`.
-pub(crate) fn told<S: Alter + Drop>(desk: &mut Desk<S>, calls: u64) -> Result<Told, Refusal>
+pub(crate) fn told<S: Alter + Drop>(desk: &mut Desk<S>, calls: u64) -> Result<Summary, Refusal>
     ensures { HasCleanDisk (state S.Store desk.new.conn) → IfOk result (λ told.
         ForEachShown S.Store desk.old (λ owner cs. length cs ≡ calls
         → told ≡ told_of owner cs)) }
@@ -43,7 +43,7 @@ pub(crate) fn told<S: Alter + Drop>(desk: &mut Desk<S>, calls: u64) -> Result<To
     let dbx = digest_of(desk, Export::Dbx)?;
     let db = digest_of(desk, Export::Db)?;
     let level = digest_of(desk, Export::Level)?;
-    Ok(Told {
+    Ok(Summary {
         calls,
         minutes,
         dbx,

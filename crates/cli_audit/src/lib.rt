@@ -7,7 +7,9 @@ mod digests;
 mod fault;
 mod fed;
 mod hashing;
-mod told;
+mod running;
+mod summary;
 mod writing;
 
 pub use auditing::{audit_file, audit_input};
+pub use running::run_audit;

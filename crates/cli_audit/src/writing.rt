@@ -8,7 +8,7 @@ ghost use Rattle.cli_audit.specs.Audits.{WritesCounted, WritesLast, audited};
 ghost use Rattle.cli_audit.specs.Lines.{audit_lines, told_lines};
 
 use crate::digests::told;
-use crate::told::{Told, put_told};
+use crate::summary::{Summary, put_told};
 use cli_commands::write_export;
 use cli_lines::{Buffered, Fault};
 use desk_exports::Export;
@@ -16,7 +16,7 @@ use desk_store::Desk;
 use sqlite::Alter;
 
 /// Writes the lines of an audit, and flushes the writer.
-fn say<W: Buffered>(told: &Told, writer: &mut W) -> Result<(), Fault>
+fn say<W: Buffered>(told: &Summary, writer: &mut W) -> Result<(), Fault>
     ensures ok { OnOk result (Appends (W.contents writer.old) (W.contents writer.new)
         (told_lines told.now)) }
     ensures flushed { OnOk result (W.flushed writer.new) }

@@ -1,3 +1,2 @@
-mod FileLemmas
 mod ServingLemmas
 mod WorkLemmas

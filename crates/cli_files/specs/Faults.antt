@@ -1,17 +1,10 @@
 -- The faults of a subcommand over a desk's file.
 use Rattle.std.specs.Prelude.{◌≡◌, ◌⊎◌, ℕ, List}
-use Rattle.desk_bytes.specs.declared.refusal.Refusal.{Refusal}
-use Rattle.desk_bytes.specs.declared.refusal.Refusal.TheVariants as refusals
-use Rattle.cli_lines.specs.Faults.{IsRow, of_facts}
+use Rattle.cli_lines.specs.Faults.{IsRow, IsUnreadRefusal, of_facts}
 use Rattle.cli_lines.specs.declared.fault.Fault.{Fault}
 use Rattle.desk_service.specs.ImageFacts.{IsFirstFault}
 use Rattle.desk_service.specs.declared.fault.FactsFault.{FactsFault}
 use Rattle.cli_commands.specs.Faults.{IsWritingRefusal}
-use Rattle.cli_opening.specs.Faults.{IsFileRefusal}
-
--- own: a file isn't read to its end: it can't be opened, memory was refused, or a read failed
-abbrev pub IsUnreadRefusal : Refusal → Type 0
-IsUnreadRefusal refusal = IsFileRefusal refusal ⊎ (refusal ≡ refusals.Read)
 
 -- an image has no facts: the row of its first fault, with the line of its SBAT text if that is
 -- wrong, by the numbers of failed reads before and after

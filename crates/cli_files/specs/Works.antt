@@ -1,7 +1,7 @@
--- The work of each subcommand on a desk over files, and its end.
-use Rattle.std.specs.Prelude.{◌≡◌, ◌≢◌, ◌⊎◌, ℕ, List, Option, Err, IfErr, IfOk, OnErr, OnOk}
+-- The work of each subcommand on a desk, and on the desk in files.
+use Rattle.std.specs.Prelude.{◌≡◌, ◌≢◌, ◌⊎◌, ℕ, List, Option, Result, Err, IfErr, IfOk, OnErr, OnOk}
 use Rattle.std.specs.Io.KnownBytes.{Appends, Keeps}
-use Rattle.sqlite.specs.Files.{file_state, over_files}
+use Rattle.sqlite.specs.Files.{over_files}
 use Rattle.sqlite.specs.Held.{state}
 use Rattle.sqlite.specs.State.{HasCleanDisk}
 use Rattle.sqlite.specs.Store as store
@@ -26,8 +26,7 @@ use Rattle.desk_texts.specs.declared.command.Command.TheVariants.{AddPerson}
 use Rattle.desk_texts.specs.declared.command.Person.{Person}
 use Rattle.desk_texts.specs.declared.facts.Facts.{Facts}
 use Rattle.desk_texts.specs.declared.reply.Reply.{Reply}
-use Rattle.cli_opening.specs.Closing.{Ends}
-use Rattle.cli_opening.specs.Opening.{IsMade}
+use Rattle.cli_opening.specs.Works.{WorksAt}
 use Rattle.cli_commands.specs.Works.{Foretells, RefusesImpact, foretold_lines, outcome_of, reply_line}
 use Rattle.cli_lines.specs.declared.ending.Ending.{Ending}
 use Rattle.cli_lines.specs.declared.ending.Outcome.{Outcome}
@@ -60,50 +59,56 @@ pub record StopsVerdict {S : Type 0} (g : store.Ghosts S) (old new : Desk S) (be
   pub unwritten : fault ≢ row_of refusals.Write → Keeps before after
   pub beginning : Keeps before after ⊎ BeginsVerdict g old new before after
 
-module _ {D : Type 0} (g : Ghosts D) where
-  -- A subcommand that reads: after its work the desk shows each history that it showed, and a stop
-  -- leaves only what it could have left before. Then the desk is closed.
-  pub record Reads (desk : Desk (FileStore D g)) (ending : Ending) (told : Desk (FileStore D g) → Type 0) : Type 0 where
-    pub left : Desk (FileStore D g)
-    pub same : HasCleanDisk (file_state left.conn) → ending.work ≢ Err (row_of refusals.Store) → KeepsDesk over_files desk left
-    pub spares : SparesDesk over_files desk left
-    pub done : told left
-    pub ended : Ends g left ending
+module _ {S : Type 0} (g : store.Ghosts S) where
+  -- After work that reads, the desk shows each history that it showed, and a stop leaves only what it
+  -- could have left before.
+  abbrev pub IsOnlyRead : Desk S → Desk S → Result Outcome Fault → Type 0
+  IsOnlyRead desk left work =
+      (HasCleanDisk (state g left.conn) → work ≢ Err (row_of refusals.Store) → KeepsDesk g desk left)
+      × SparesDesk g desk left
 
   -- the bytes of this export, for each history that the desk shows, were written, or a prefix of
   -- them
-  abbrev pub Exports : Export → Option (List ℕ) → Option (List ℕ) → Ending → Desk (FileStore D g) → Type 0
-  Exports what before after ending desk = Reads desk ending (λ left. HasCleanDisk (file_state left.conn)
-      → OnOk ending.work (ForEachShown over_files desk (Writes before after (exported what)))
-      × OnErr ending.work (ForEachShown over_files desk (WritesBeginning before after (exported what))))
+  abbrev pub WritesExport : Export → Option (List ℕ) → Option (List ℕ) → Desk S → Desk S → Result Outcome Fault → Type 0
+  WritesExport what before after desk left work = IsOnlyRead desk left work × (HasCleanDisk (state g left.conn)
+      → OnOk work (ForEachShown g desk (Writes before after (exported what)))
+      × OnErr work (ForEachShown g desk (WritesBeginning before after (exported what))))
 
   -- the line of the verdict on an image was written, and the outcome is that of the verdict; or the
   -- verdict stopped
-  abbrev pub Judges : Option (List ℕ) → Option (List ℕ) → Ending → Desk (FileStore D g) → Type 0
-  Judges before after ending desk = Reads desk ending (λ left. IfOk ending.work (JudgesImage over_files desk left before after)
-      × IfErr ending.work (StopsVerdict over_files desk left before after))
+  abbrev pub WritesVerdict : Option (List ℕ) → Option (List ℕ) → Desk S → Desk S → Result Outcome Fault → Type 0
+  WritesVerdict before after desk left work = IsOnlyRead desk left work
+      × IfOk work (JudgesImage g desk left before after)
+      × IfErr work (StopsVerdict g desk left before after)
 
   -- the impact of the proposal of this number was written, or a prefix of it, and the outcome is its
   -- own; or the refusal is, except for the device's and the writer's
+  abbrev pub ForetellsImpact : ℕ → Option (List ℕ) → Option (List ℕ) → Desk S → Desk S → Result Outcome Fault → Type 0
+  ForetellsImpact k before after desk left work = IsOnlyRead desk left work × (HasCleanDisk (state g left.conn)
+      → OnOk work (ForEachShown g desk (Writes before after (foretold_lines k)))
+      × IfOk work (λ outcome. ForEachShown g desk (Foretells k outcome))
+      × OnErr work (ForEachShown g desk (WritesBeginning before after (foretold_lines k)))
+      × IfErr work (λ fault. fault ≢ row_of refusals.NoMemory → fault ≢ row_of refusals.Store
+      → fault ≢ row_of refusals.Write → ForEachShown g desk (RefusesImpact k fault.refusal)))
+
+  -- the desk answered a call of the console: the line of its reply was written, and a stop leaves the
+  -- history before the call or the one after it
+  abbrev pub AnswersCall : Call → Option (List ℕ) → Option (List ℕ) → Desk S → Desk S → Result Outcome Fault → Type 0
+  AnswersCall c before after desk left work =
+      (HasCleanDisk (state g left.conn) → OnOk work ((reply : Reply)
+      × Replies g desk left c reply × Appends before after (reply_line reply)))
+      × MayStop g desk left c
+
+-- the same of a desk in files, which is then closed
+module _ {D : Type 0} (g : Ghosts D) where
+  abbrev pub Exports : Export → Option (List ℕ) → Option (List ℕ) → Ending → Desk (FileStore D g) → Type 0
+  Exports what before after ending desk = WorksAt g (WritesExport over_files what before after desk) ending
+
+  abbrev pub Judges : Option (List ℕ) → Option (List ℕ) → Ending → Desk (FileStore D g) → Type 0
+  Judges before after ending desk = WorksAt g (WritesVerdict over_files before after desk) ending
+
   abbrev pub WritesImpact : ℕ → Option (List ℕ) → Option (List ℕ) → Ending → Desk (FileStore D g) → Type 0
-  WritesImpact k before after ending desk = Reads desk ending (λ left. HasCleanDisk (file_state left.conn)
-      → OnOk ending.work (ForEachShown over_files desk (Writes before after (foretold_lines k)))
-      × IfOk ending.work (λ outcome. ForEachShown over_files desk (Foretells k outcome))
-      × OnErr ending.work (ForEachShown over_files desk (WritesBeginning before after (foretold_lines k)))
-      × IfErr ending.work (λ fault. fault ≢ row_of refusals.NoMemory → fault ≢ row_of refusals.Store
-      → fault ≢ row_of refusals.Write → ForEachShown over_files desk (RefusesImpact k fault.refusal)))
+  WritesImpact k before after ending desk = WorksAt g (ForetellsImpact over_files k before after desk) ending
 
-  -- the desk answered a call of the console: the line of its reply was written, a stop leaves the
-  -- history before the call or the one after it, and the desk is closed
-  pub record Calls (c : Call) (before after : Option (List ℕ)) (ending : Ending) (desk : Desk (FileStore D g)) : Type 0 where
-    pub left : Desk (FileStore D g)
-    pub told : HasCleanDisk (file_state left.conn) → OnOk ending.work ((reply : Reply)
-        × Replies over_files desk left c reply × Appends before after (reply_line reply))
-    pub stopped : MayStop over_files desk left c
-    pub ended : Ends g left ending
-
-  -- a desk was made in files, with this owner and without calls, and closed
-  pub record MakesDesk (owner : List ℕ) (ending : Ending) : Type 0 where
-    pub desk : Desk (FileStore D g)
-    pub made : IsMade g owner desk
-    pub ended : Ends g desk ending
+  abbrev pub Calls : Call → Option (List ℕ) → Option (List ℕ) → Ending → Desk (FileStore D g) → Type 0
+  Calls c before after ending desk = WorksAt g (AnswersCall over_files c before after desk) ending

@@ -2,7 +2,7 @@
 ghost use Rattle.std.specs.Prelude.{◌≡◌, ◌⊎◌, None, IfErr, IfSome, OnOk};
 ghost use Rattle.std.specs.Io.KnownBytes.{Keeps};
 ghost use Rattle.cli_lines.specs.Faults.{IsRow};
-ghost use Rattle.cli_files.specs.Works.{WritesImpact};
+ghost use Rattle.cli_files.specs.Works.{ForetellsImpact, WritesImpact};
 ghost use Rattle.cli_commands.specs.Faults.{IsForetellingRefusal};
 ghost use Rattle.cli_opening.specs.Faults.{IsClosingRefusal, IsLasting};
 ghost use Rattle.cli_opening.specs.Faults.{IsOfOpening, IsOpeningRefusal};
@@ -10,27 +10,39 @@ ghost use Rattle.cli_opening.specs.Works.{AtADesk, IsUnopened};
 
 use cli_commands::foretell;
 use cli_lines::{Buffered, Ending};
-use cli_opening::{close_after, open};
+use cli_opening::{Room, Work, Worked, on_desk};
 use desk_store::Desk;
 use desk_texts::ProposalNumber;
-use sqlite::{File, FileStore};
+use sqlite::{Alter, File};
 use sqlite_disk::Disk;
+use std::marker::PhantomData;
 
-/// Writes the impact of a proposal to an open desk over files, and closes the desk.
-fn foretell_at<D: Disk + Drop, W: Buffered>(
-    mut desk: Desk<FileStore<D>>,
+/// Writes the impact of a proposal.
+#[derive(Drop)]
+struct Foretelling<W> {
     number: ProposalNumber,
-    writer: &mut W,
-) -> Ending
-    ensures foretold { WritesImpact D.Disk number
-        (W.contents writer.old) (W.contents writer.new) result desk }
-    ensures flushed { OnOk result.work (W.flushed writer.new) }
-    ensures named { IfErr result.work (IsRow IsForetellingRefusal) }
-    ensures closing { IfSome result.closing (IsRow IsClosingRefusal) }
-    ensures let_go { IfErr result.work (λ fault. IsLasting fault.refusal → result.closing ≡ None) }
-{
-    let work = foretell(&mut desk, number, writer);
-    close_after(desk, work)
+    writer: PhantomData<W>,
+}
+
+impl<W: Buffered> Work for Foretelling<W> {
+    type Output = W;
+
+    ghost does = { λ _ g w before after. ForetellsImpact g w.number
+        (W.contents before) (W.contents after) };
+
+    ghost leaves = { λ after _. W.flushed after };
+
+    ghost stops = { IsRow IsForetellingRefusal };
+
+    fn work<S: Alter + Drop>(
+        self,
+        _rt: &HostRuntime,
+        mut desk: Desk<S>,
+        output: &mut W,
+    ) -> Worked<S> {
+        let work = foretell(&mut desk, self.number, output);
+        Worked { desk, work }
+    }
 }
 
 /// Writes the impact of the proposal of this number to the desk in a file: a line for each image
@@ -57,8 +69,9 @@ pub fn foretell_from<W: Buffered>(
     ensures closing { IfSome result.closing (IsRow IsClosingRefusal) }
     ensures let_go { IfErr result.work (λ fault. IsLasting fault.refusal → result.closing ≡ None) }
 {
-    match open(rt, path) {
-        Ok(desk) => foretell_at(desk, number, writer),
-        Err(refusal) => Ending::without_desk(refusal),
-    }
+    let foretelling: Foretelling<W> = Foretelling {
+        number,
+        writer: PhantomData,
+    };
+    on_desk(rt, path, Room::AsItIs, foretelling, writer)
 }

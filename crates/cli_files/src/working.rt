@@ -1,72 +1,66 @@
-//! The work of each subcommand over a desk's file. Faults are found in one order: the file, the
+//! The work of each subcommand on the desk in a file. Faults are found in one order: the file, the
 //! desk in it, another file, the command.
 ghost use Rattle.std.specs.Prelude.{◌≡◌, ◌≢◌, ◌⊎◌, ℕ, List, None, Err};
-ghost use Rattle.std.specs.Prelude.{IfErr, IfOk, IfSome, OnErr, OnOk};
+ghost use Rattle.std.specs.Prelude.{IfErr, IfOk, IfSome, OnOk};
 ghost use Rattle.std.specs.Io.KnownBytes.{Keeps};
 ghost use Rattle.sqlite.specs.Held.{state};
 ghost use Rattle.sqlite.specs.State.{HasCleanDisk};
-ghost use Rattle.cli_lines.specs.Faults.{IsRow, row_of};
+ghost use Rattle.desk_bytes.specs.declared.refusal.Refusal.TheVariants as refusals;
+ghost use Rattle.cli_lines.specs.Faults.{IsRow, IsUnreadRefusal, row_of};
 ghost use Rattle.desk_service.specs.ImageFacts.{IsFactsOf};
 ghost use Rattle.store_sql.specs.States.{Spares};
 ghost use Rattle.desk_store.specs.Desks.{KeepsDesk};
-ghost use Rattle.cli_files.specs.Faults.{HasFault, IsImageFault, IsJudgingFault, IsUnreadRefusal};
-ghost use Rattle.cli_opening.specs.Faults.{IsClosingRefusal, IsLasting, IsMakingRefusal};
+ghost use Rattle.cli_files.specs.Faults.{HasFault, IsImageFault, IsJudgingFault};
+ghost use Rattle.cli_opening.specs.Faults.{IsClosingRefusal, IsLasting};
 ghost use Rattle.cli_opening.specs.Faults.{IsOfOpening, IsOpeningRefusal};
 ghost use Rattle.cli_opening.specs.Works.{AtADesk, IsUnopened};
-ghost use Rattle.cli_files.specs.Works.{Calls, Exports, Judges, JudgesImage, MakesDesk};
-ghost use Rattle.cli_files.specs.Works.{StopsVerdict, adding};
+ghost use Rattle.cli_files.specs.Works.{AnswersCall, Calls, Exports, Judges, JudgesImage};
+ghost use Rattle.cli_files.specs.Works.{StopsVerdict, WritesExport, WritesVerdict, adding};
 ghost use Rattle.cli_commands.specs.Faults.{IsAddingRefusal, IsWritingRefusal};
+ghost use Rattle.cli_lines.specs.declared.ending.Outcome.TheVariants.{Done};
 
-use crate::file::read_image;
 use cli_commands::{add, judge, write_export};
-use cli_lines::{Buffered, Ending, Fault, Outcome};
-use cli_opening::{close_after, make, open};
-use desk_bytes::{Guid, Refusal};
+use cli_lines::{Buffered, Ending, Fault, Outcome, read_image};
+use cli_opening::{Room, Work, Worked, on_desk};
 use desk_exports::Export;
 use desk_service::facts;
 use desk_store::Desk;
 use desk_texts::{Facts, Key, Person};
 use pe_image::Pieces;
-use sqlite::{Alter, File, FileStore};
+use sqlite::{Alter, File};
 use sqlite_disk::Disk;
 use std::alloc::Global;
+use std::marker::PhantomData;
 use std::rt::Files;
 
-/// Makes a desk with this owner and without calls in a file, which is created if it doesn't exist.
-///
-/// Exists: the file has a table, an index or a view with a name of the desk's already. File: it
-/// can't be opened or created, or isn't a database.
-pub fn make_desk(rt: &HostRuntime, path: &str, owner: &Guid) -> Ending
-    ensures done { IfOk result.work (λ outcome. outcome ≡ Outcome.Done) }
-    ensures named { IfErr result.work (IsRow IsMakingRefusal) }
-    ensures made { OnOk result.work (MakesDesk ⟦<File as Disk>⟧ owner.now result) }
-    ensures first { OnErr result.work (result.closing ≡ None) }
-    ensures closing { IfSome result.closing (IsRow IsClosingRefusal) }
-{
-    match make(rt, path, owner) {
-        Ok(desk) => close_after(desk, Ok(Outcome::Done)),
-        Err(refusal) => Ending::without_desk(refusal),
-    }
+/// Adds a person, and writes the reply.
+#[derive(Drop)]
+struct Adding<'a, W> {
+    key: &'a Key,
+    person: Person,
+    writer: PhantomData<W>,
 }
 
-/// Adds a person to an open desk over files, and closes it.
-fn add_at<D: Disk + Drop, W: Buffered>(
-    alloc: Global,
-    mut desk: Desk<FileStore<D>>,
-    key: &Key,
-    person: Person,
-    writer: &mut W,
-) -> Ending
-    ensures added { Calls D.Disk (adding key.now person)
-        (W.contents writer.old) (W.contents writer.new) result desk }
-    ensures done { IfOk result.work (λ outcome. outcome ≡ Outcome.Done) }
-    ensures flushed { OnOk result.work (W.flushed writer.new) }
-    ensures named { IfErr result.work (IsRow IsAddingRefusal) }
-    ensures closing { IfSome result.closing (IsRow IsClosingRefusal) }
-    ensures let_go { IfErr result.work (λ fault. IsLasting fault.refusal → result.closing ≡ None) }
-{
-    let work = add(alloc, &mut desk, key, person, writer);
-    close_after(desk, work)
+impl<'a, W: Buffered> Work for Adding<'a, W> {
+    type Output = W;
+
+    ghost does = { λ _ g w before after. AnswersCall g (adding w.key.now w.person)
+        (W.contents before) (W.contents after) };
+
+    ghost leaves = { λ after outcome. (outcome ≡ Done) × W.flushed after };
+
+    ghost stops = { IsRow IsAddingRefusal };
+
+    fn work<S: Alter + Drop>(
+        self,
+        rt: &HostRuntime,
+        mut desk: Desk<S>,
+        output: &mut W,
+    ) -> Worked<S> {
+        let Adding { key, person, .. } = self;
+        let work = add(rt.alloc(), &mut desk, key, person, output);
+        Worked { desk, work }
+    }
 }
 
 /// Adds a person to the desk in a file, as the console's call under this key, and writes the
@@ -94,10 +88,12 @@ pub fn add_person<W: Buffered>(
     ensures closing { IfSome result.closing (IsRow IsClosingRefusal) }
     ensures let_go { IfErr result.work (λ fault. IsLasting fault.refusal → result.closing ≡ None) }
 {
-    match open(rt, path) {
-        Ok(desk) => add_at(rt.alloc(), desk, key, person, writer),
-        Err(refusal) => Ending::without_desk(refusal),
-    }
+    let adding: Adding<'_, W> = Adding {
+        key,
+        person,
+        writer: PhantomData,
+    };
+    on_desk(rt, path, Room::AsItIs, adding, writer)
 }
 
 /// The facts of an image that the desk keeps.
@@ -131,7 +127,7 @@ fn judge_file<S: Alter + Drop, W: Buffered>(
     ensures flushed { OnOk result (W.flushed writer.new) }
     ensures named { IfErr result IsJudgingFault }
     ensures same { HasCleanDisk (state S.Store desk.new.conn)
-        → result ≢ Err (row_of Refusal.Store) → KeepsDesk S.Store desk.old desk.new }
+        → result ≢ Err (row_of refusals.Store) → KeepsDesk S.Store desk.old desk.new }
     ensures spares { Spares S.Store desk.old.conn desk.new.conn }
 {
     match facts_in(rt, file) {
@@ -140,21 +136,31 @@ fn judge_file<S: Alter + Drop, W: Buffered>(
     }
 }
 
-/// Writes the verdict of an open desk over files on the image in a file, and closes the desk.
-fn judge_at<D: Disk + Drop, W: Buffered>(
-    rt: &HostRuntime,
-    mut desk: Desk<FileStore<D>>,
-    file: &str,
-    writer: &mut W,
-) -> Ending
-    ensures judged { Judges D.Disk (W.contents writer.old) (W.contents writer.new) result desk }
-    ensures flushed { OnOk result.work (W.flushed writer.new) }
-    ensures named { IfErr result.work IsJudgingFault }
-    ensures closing { IfSome result.closing (IsRow IsClosingRefusal) }
-    ensures let_go { IfErr result.work (λ fault. IsLasting fault.refusal → result.closing ≡ None) }
-{
-    let work = judge_file(rt, &mut desk, file, writer);
-    close_after(desk, work)
+/// Judges the image in a file, and writes the verdict.
+#[derive(Drop)]
+struct Judging<'a, W> {
+    file: &'a str,
+    writer: PhantomData<W>,
+}
+
+impl<'a, W: Buffered> Work for Judging<'a, W> {
+    type Output = W;
+
+    ghost does = { λ _ g _ before after. WritesVerdict g (W.contents before) (W.contents after) };
+
+    ghost leaves = { λ after _. W.flushed after };
+
+    ghost stops = { IsJudgingFault };
+
+    fn work<S: Alter + Drop>(
+        self,
+        rt: &HostRuntime,
+        mut desk: Desk<S>,
+        output: &mut W,
+    ) -> Worked<S> {
+        let work = judge_file(rt, &mut desk, self.file, output);
+        Worked { desk, work }
+    }
 }
 
 /// Writes the verdict of the desk in a file on the image in another: `allowed`, or `refused` and
@@ -175,28 +181,39 @@ pub fn judge_image<W: Buffered>(rt: &HostRuntime, path: &str, file: &str, writer
     ensures closing { IfSome result.closing (IsRow IsClosingRefusal) }
     ensures let_go { IfErr result.work (λ fault. IsLasting fault.refusal → result.closing ≡ None) }
 {
-    match open(rt, path) {
-        Ok(desk) => judge_at(rt, desk, file, writer),
-        Err(refusal) => Ending::without_desk(refusal),
-    }
+    let judging: Judging<'_, W> = Judging {
+        file,
+        writer: PhantomData,
+    };
+    on_desk(rt, path, Room::AsItIs, judging, writer)
 }
 
-/// Writes an export of an open desk over files, and closes it.
-fn export_at<D: Disk + Drop, W: Buffered>(
-    mut desk: Desk<FileStore<D>>,
+/// Writes an export.
+#[derive(Drop)]
+struct Exporting<W> {
     what: Export,
-    writer: &mut W,
-) -> Ending
-    ensures exported { Exports D.Disk what
-        (W.contents writer.old) (W.contents writer.new) result desk }
-    ensures done { IfOk result.work (λ outcome. outcome ≡ Outcome.Done) }
-    ensures flushed { OnOk result.work (W.flushed writer.new) }
-    ensures named { IfErr result.work (IsRow IsWritingRefusal) }
-    ensures closing { IfSome result.closing (IsRow IsClosingRefusal) }
-    ensures let_go { IfErr result.work (λ fault. IsLasting fault.refusal → result.closing ≡ None) }
-{
-    let work = write_export(&mut desk, what, writer);
-    close_after(desk, work)
+    writer: PhantomData<W>,
+}
+
+impl<W: Buffered> Work for Exporting<W> {
+    type Output = W;
+
+    ghost does = { λ _ g w before after. WritesExport g w.what
+        (W.contents before) (W.contents after) };
+
+    ghost leaves = { λ after outcome. (outcome ≡ Done) × W.flushed after };
+
+    ghost stops = { IsRow IsWritingRefusal };
+
+    fn work<S: Alter + Drop>(
+        self,
+        _rt: &HostRuntime,
+        mut desk: Desk<S>,
+        output: &mut W,
+    ) -> Worked<S> {
+        let work = write_export(&mut desk, self.what, output);
+        Worked { desk, work }
+    }
 }
 
 /// Writes an export of the desk in a file. The faults of the desk's file are those of `add_person`.
@@ -219,8 +236,9 @@ pub fn export_from<W: Buffered>(
     ensures closing { IfSome result.closing (IsRow IsClosingRefusal) }
     ensures let_go { IfErr result.work (λ fault. IsLasting fault.refusal → result.closing ≡ None) }
 {
-    match open(rt, path) {
-        Ok(desk) => export_at(desk, what, writer),
-        Err(refusal) => Ending::without_desk(refusal),
-    }
+    let exporting: Exporting<W> = Exporting {
+        what,
+        writer: PhantomData,
+    };
+    on_desk(rt, path, Room::AsItIs, exporting, writer)
 }

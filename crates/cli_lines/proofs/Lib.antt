@@ -1,2 +1,3 @@
 pub mod EachLemmas
+mod FileLemmas
 pub mod LineLemmas

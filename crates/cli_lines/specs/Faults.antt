@@ -1,8 +1,9 @@
 -- Rows of the table of refusals with their places.
-use Rattle.std.specs.Prelude.{◌≡◌, None, Some}
+use Rattle.std.specs.Prelude.{◌≡◌, ◌⊎◌, None, Some}
 use Rattle.desk_bytes.specs.Inputs as input
 use Rattle.desk_bytes.specs.declared.input.InputFault.{InputFault}
 use Rattle.desk_bytes.specs.declared.refusal.Refusal.{Refusal}
+use Rattle.desk_bytes.specs.declared.refusal.Refusal.TheVariants as refusals
 use Rattle.cli_lines.specs.declared.fault.Fault.{Fault}
 use Rattle.desk_service.specs.Faults as facts
 use Rattle.desk_service.specs.declared.fault.FactsFault.{FactsFault}
@@ -22,6 +23,14 @@ row_of refusal = record { refusal = refusal; place = None }
 -- a row without a place, whose refusal is one of these
 abbrev pub IsRow : (Refusal → Type 0) → Fault → Type 0
 IsRow P fault = (fault.place ≡ None) × P fault.refusal
+
+-- own: a file can't be opened, or memory was refused
+abbrev pub IsFileRefusal : Refusal → Type 0
+IsFileRefusal refusal = (refusal ≡ refusals.NoMemory) ⊎ (refusal ≡ refusals.File)
+
+-- own: a file isn't read to its end: it can't be opened, memory was refused, or a read failed
+abbrev pub IsUnreadRefusal : Refusal → Type 0
+IsUnreadRefusal refusal = IsFileRefusal refusal ⊎ (refusal ≡ refusals.Read)
 
 -- own: the row for a text that isn't packed
 abbrev pub of_pack : PackFault → Fault

@@ -1,14 +1,22 @@
--- The refusal for a close that fails, and when a desk is closed.
-use Rattle.std.proofs.Common.{◌≡◌, ◌⊎◌, ◌∙◌, Bool, true, false, Option, None, Result, Ok, Err, refl, sym, inl, inr}
-use Rattle.std.specs.Prelude.{IfErr}
+-- The refusal for a close that fails, when a desk is closed, and what holds of work at a desk.
+use Rattle.std.proofs.Common.{◌≡◌, ◌⊎◌, ◌∙◌, ℕ, List, Bool, true, false, Option, None, Result, Ok, Err, refl, subst, sym, inl, inr}
+use Rattle.std.specs.Prelude.{IfErr, IfOk, OnOk}
+use Rattle.std.specs.Io.KnownBytes.{Keeps}
+use Rattle.std.proofs.KnownBytes.{Keeps-refl}
+use Rattle.sqlite_disk.specs.declared.Disk.{Ghosts}
+use Rattle.sqlite_store.specs.declared.store.FileStore.{FileStore}
 use Rattle.desk_bytes.specs.declared.refusal.Refusal.{Refusal}
 use Rattle.desk_bytes.specs.declared.refusal.Refusal.TheVariants as refusals
 use Rattle.cli_lines.specs.Faults.{IsRow}
 use Rattle.cli_lines.specs.declared.fault.Fault.{Fault}
 use Rattle.store_reads.specs.Failures.{IsFailure}
-use Rattle.cli_opening.specs.Closing.{FailsForGood, LeavesUsable}
-use Rattle.cli_opening.specs.Faults.{IsClosingRefusal, IsLasting, IsOfOpening, IsOpeningRefusal}
+use Rattle.cli_opening.specs.Closing.{Ends, FailsForGood, LeavesUsable}
+use Rattle.cli_opening.specs.Faults.{IsClosingRefusal, IsLasting, IsOfOpening}
+use Rattle.cli_opening.specs.Opening.{IsMade}
+use Rattle.cli_opening.specs.Works.{IsUnopened, MakesDesk}
+use Rattle.cli_lines.specs.declared.ending.Ending.{Ending}
 use Rattle.cli_lines.specs.declared.ending.Outcome.{Outcome}
+use Rattle.desk_store.specs.declared.desk.Desk.{Desk}
 
 -- a desk that needs opening answers Reopen, and another a device
 pub closing_refusal : (needs_reopening : Bool) (refusal : Refusal)
@@ -36,14 +44,78 @@ pub never_both : {X : Type 0} (work : Result Outcome Fault) → FailsForGood wor
 never_both (Ok outcome) fails usable = absurd fails
 never_both (Err fault) fails usable = absurd (usable fails)
 
--- a row of these refusals is a row of these or of the opening's
-pub also : (P : Refusal → Type 0) (work : Result Outcome Fault) → IfErr work (IsRow P)
-    → IfErr work (IsRow (λ refusal. IsOpeningRefusal refusal ⊎ P refusal))
-also P (Ok outcome) h = tt
-also P (Err fault) h = (h.0, inr h.1)
+-- once the work is done, a desk was made
+pub made_desk : {D : Type 0} {g : Ghosts D} (owner : List ℕ) (ending : Ending) (desk : Desk (FileStore D g))
+    → IsMade g owner desk → Ends g desk ending → OnOk ending.work (MakesDesk g owner ending)
+made_desk {D} {g} owner ending desk made ended = done ending.work
+  where
+    done : (work : Result Outcome Fault) → OnOk work (MakesDesk g owner ending)
+    done (Ok outcome) = record { desk = desk; made = made; ended = ended }
+    done (Err fault) = tt
 
--- of refusals that no opening gives anything holds where one is of an opening
-pub never_of_opening : {X : Type 0} (P : Refusal → Type 0) → ((refusal : Refusal) → P refusal → IsOfOpening refusal → X)
-    → (work : Result Outcome Fault) → IfErr work (IsRow P) → IfErr work (λ fault. IsOfOpening fault.refusal → X)
-never_of_opening P apart (Ok outcome) h = tt
-never_of_opening P apart (Err fault) h = λ opening. apart fault.refusal h.1 opening
+-- the faults of work are among those of the opening or the work
+pub also : (P Q : Fault → Type 0) (work : Result Outcome Fault) → IfErr work Q → IfErr work (λ fault. P fault ⊎ Q fault)
+also P Q (Ok outcome) h = tt
+also P Q (Err fault) h = inr h
+
+-- where none of them is one that only an opening gives, anything holds of such a one
+pub never_of_opening : (X : Type 0) (work : Result Outcome Fault) → IfErr work (λ fault. IsOfOpening fault.refusal → ⊥)
+    → IfErr work (λ fault. IsOfOpening fault.refusal → X)
+never_of_opening X (Ok outcome) apart = tt
+never_of_opening X (Err fault) apart = λ opening. absurd (apart opening)
+
+-- and none is, if all are rows of refusals that no opening gives alone
+pub rows_apart : (P : Refusal → Type 0) → ((refusal : Refusal) → P refusal → IsOfOpening refusal → ⊥)
+    → (work : Result Outcome Fault) → IfErr work (IsRow P) → IfErr work (λ fault. IsOfOpening fault.refusal → ⊥)
+rows_apart P apart (Ok outcome) h = tt
+rows_apart P apart (Err fault) h = apart fault.refusal h.1
+
+-- a row of the opening's refusals, or of the work's, is a row of either
+pub either_row : (P Q : Refusal → Type 0) (work : Result Outcome Fault) → IfErr work (λ fault. IsRow P fault ⊎ IsRow Q fault)
+    → IfErr work (IsRow (λ refusal. P refusal ⊎ Q refusal))
+either_row P Q (Ok outcome) h = tt
+either_row P Q (Err fault) (inl h) = (h.0, inl h.1)
+either_row P Q (Err fault) (inr h) = (h.0, inr h.1)
+
+-- an output that stays the same keeps its bytes
+pub keeps_same : {W : Type 0} (contents : W → Option (List ℕ)) (old new : W) → new ≡ old → Keeps (contents old) (contents new)
+keeps_same contents old new same =
+    let P : _ → Type 0 = λ w. Keeps (contents old) (contents w) in
+    subst P (sym same) (Keeps-refl (contents old))
+
+-- the output of a subcommand that opened no desk keeps its bytes
+pub unopened_keeps : {W X : Type 0} (contents : W → Option (List ℕ)) (old new : W) (ending : Ending)
+    → ((IsUnopened ending × (new ≡ old)) ⊎ X) → ((IsUnopened ending × Keeps (contents old) (contents new)) ⊎ X)
+unopened_keeps contents old new ending (inl none) = inl (none.0, keeps_same contents old new none.1)
+unopened_keeps contents old new ending (inr done) = inr done
+
+pub first_keeps : {W : Type 0} (contents : W → Option (List ℕ)) (old new : W) (closing : Option Fault) (work : Result Outcome Fault)
+    → IfErr work (λ fault. IsOfOpening fault.refusal → (closing ≡ None) × (new ≡ old))
+    → IfErr work (λ fault. IsOfOpening fault.refusal → (closing ≡ None) × Keeps (contents old) (contents new))
+first_keeps contents old new closing (Ok outcome) h = tt
+first_keeps contents old new closing (Err fault) h = λ opening. ((h opening).0, keeps_same contents old new (h opening).1)
+
+-- the same without an output
+pub unopened_alone : {X Y : Type 0} (ending : Ending) → ((IsUnopened ending × Y) ⊎ X) → (IsUnopened ending ⊎ X)
+unopened_alone ending (inl none) = inl none.0
+unopened_alone ending (inr done) = inr done
+
+pub first_alone : (Y : Type 0) (closing : Option Fault) (work : Result Outcome Fault)
+    → IfErr work (λ fault. IsOfOpening fault.refusal → (closing ≡ None) × Y)
+    → IfErr work (λ fault. IsOfOpening fault.refusal → closing ≡ None)
+first_alone Y closing (Ok outcome) h = tt
+first_alone Y closing (Err fault) h = λ opening. (h opening).0
+
+-- both of two facts once the work is done
+pub both_of : (P : Outcome → Type 0) (X : Type 0) (work : Result Outcome Fault) → IfOk work P → OnOk work X → IfOk work (λ outcome. P outcome × X)
+both_of P X (Ok outcome) p x = (p, x)
+both_of P X (Err fault) p x = tt
+
+-- and each of them
+pub done_of : (P : Outcome → Type 0) (X : Type 0) (work : Result Outcome Fault) → IfOk work (λ outcome. P outcome × X) → IfOk work P
+done_of P X (Ok outcome) h = h.0
+done_of P X (Err fault) h = tt
+
+pub left_of : (P : Outcome → Type 0) (X : Type 0) (work : Result Outcome Fault) → IfOk work (λ outcome. P outcome × X) → OnOk work X
+left_of P X (Ok outcome) h = h.1
+left_of P X (Err fault) h = tt

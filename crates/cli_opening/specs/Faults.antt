@@ -2,12 +2,9 @@
 use Rattle.std.specs.Prelude.{◌≡◌, ◌⊎◌}
 use Rattle.desk_bytes.specs.declared.refusal.Refusal.{Refusal}
 use Rattle.desk_bytes.specs.declared.refusal.Refusal.TheVariants as refusals
+use Rattle.cli_lines.specs.Faults.{IsFileRefusal}
 use Rattle.store_reads.specs.Failures.{IsFailure}
 use Rattle.desk_store.specs.Steps.{IsReadRefusal}
-
--- own: a file can't be opened, or memory was refused
-abbrev pub IsFileRefusal : Refusal → Type 0
-IsFileRefusal refusal = (refusal ≡ refusals.NoMemory) ⊎ (refusal ≡ refusals.File)
 
 -- own: no desk is made: the file fails, a name of the desk's is taken in it, or a device fails
 abbrev pub IsMakingRefusal : Refusal → Type 0

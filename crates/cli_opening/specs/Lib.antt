@@ -1,4 +1,5 @@
 pub mod Closing
 pub mod Faults
 pub mod Opening
+pub mod Pages
 pub mod Works

@@ -1,13 +1,16 @@
 -- A subcommand without a desk, and at one.
-use Rattle.std.specs.Prelude.{◌≡◌}
+use Rattle.std.specs.Prelude.{◌≡◌, ℕ, List, Result}
 use Rattle.sqlite_disk.specs.declared.Disk.{Ghosts}
 use Rattle.sqlite_store.specs.declared.store.FileStore.{FileStore}
 use Rattle.desk_bytes.specs.declared.refusal.Refusal.{Refusal}
 use Rattle.cli_lines.specs.Endings.{unopened}
 use Rattle.cli_lines.specs.declared.ending.Ending.{Ending}
+use Rattle.cli_lines.specs.declared.ending.Outcome.{Outcome}
+use Rattle.cli_lines.specs.declared.fault.Fault.{Fault}
 use Rattle.desk_store.specs.declared.desk.Desk.{Desk}
+use Rattle.cli_opening.specs.Closing.{Ends}
 use Rattle.cli_opening.specs.Faults.{IsOpeningRefusal}
-use Rattle.cli_opening.specs.Opening.{IsOpened}
+use Rattle.cli_opening.specs.Opening.{IsMade, IsOpened}
 
 -- own: no desk was opened, and this is the refusal
 abbrev pub IsUnopened : Ending → Type 0
@@ -18,3 +21,20 @@ pub record AtADesk {D : Type 0} {g : Ghosts D} (did : Desk (FileStore D g) → T
   pub desk : Desk (FileStore D g)
   pub opened : IsOpened g desk
   pub done : did desk
+
+module _ {D : Type 0} (g : Ghosts D) where
+  -- a desk over files was left so by work with this result, and then closed
+  pub record WorksAt (did : Desk (FileStore D g) → Result Outcome Fault → Type 0) (ending : Ending) : Type 0 where
+    pub left : Desk (FileStore D g)
+    pub done : did left ending.work
+    pub ended : Ends g left ending
+
+  -- a desk was opened in files, and worked on so
+  abbrev pub WorksOn : (Desk (FileStore D g) → Desk (FileStore D g) → Result Outcome Fault → Type 0) → Ending → Type 0
+  WorksOn did ending = AtADesk {D = D} {g = g} (λ desk. WorksAt (did desk) ending)
+
+  -- a desk was made in files, with this owner and without calls, and closed
+  pub record MakesDesk (owner : List ℕ) (ending : Ending) : Type 0 where
+    pub desk : Desk (FileStore D g)
+    pub made : IsMade g owner desk
+    pub ended : Ends g desk ending

@@ -1,5 +1,6 @@
 //! A connection to the file at a path, with room for its pages.
 ghost use Rattle.std.specs.Prelude.{◌≡◌, ◌⊎◌, IfErr, IfOk, IsTrue, false, true};
+ghost use Rattle.cli_opening.specs.Pages.{pages_for};
 ghost use Rattle.sqlite.specs.Files.{file_state};
 ghost use Rattle.sqlite.specs.Start.{FindsIn};
 ghost use Rattle.sqlite.specs.State.{HasCleanDisk};
@@ -9,22 +10,57 @@ ghost use Rattle.sqlite_wal.specs.Files.{image_at};
 use desk_bytes::Refusal;
 use sqlite::{Connection, Error, ErrorCode, FileFrom, FileStore, Files, Options, Start};
 use sqlite_std_file::OpenError;
+use std::fs;
 use std::hash::{BuildHasher, RandomState};
 use std::io::ErrorKind;
 
-/// The number of pages of 4,096 bytes that the store keeps in memory: 32 MiB of a file, which has
-/// room for some 130,000 accepted calls. The store takes this memory at once.
-const KEPT_PAGES: usize = 8_192;
+/// The pages of a file that the store has room for in memory. It takes this memory at once.
+#[derive(Clone, Copy, Debug, PartialEq, Eq)]
+pub enum Room {
+    /// Those that the file has, and a few more.
+    AsItIs,
+    /// The most, for a file that grows.
+    ToGrow,
+}
+
+/// The length of a page of a desk's file.
+const PAGE: u64 = 4_096;
+
+/// The most pages that the store has room for: 32 MiB of a file, which has some 130,000 accepted
+/// calls.
+const MOST_PAGES: u64 = 8_192;
+
+/// The pages beyond those that a file has. A new desk has fewer.
+const MORE_PAGES: u64 = 64;
+
+/// The pages that the store has room for, where the file has so many bytes.
+fn pages(room: Room, bytes: u64) -> u64
+    ensures { result ≡ pages_for room bytes }
+{
+    match room {
+        Room::AsItIs => (bytes / PAGE + MORE_PAGES).min(MOST_PAGES),
+        Room::ToGrow => MOST_PAGES,
+    }
+}
+
+/// The length of the file at a path; 0 if it can't be told.
+fn length_at(rt: &HostRuntime, path: &str) -> u64 {
+    match fs::metadata(rt, path) {
+        Ok(found) => found.len(),
+        Err(_) => 0,
+    }
+}
 
 /// A random number for the salts of the log, and the sizes for the store.
-fn options(rt: &HostRuntime) -> Result<Options, Refusal>
-    ensures { IfErr result (λ refusal. refusal ≡ Refusal.File) }
+fn options(rt: &HostRuntime, pages: u64) -> Result<Options, Refusal>
+    ensures pages { IfOk result (λ options. options.cache_pages ≡ pages) }
+    ensures named { IfErr result (λ refusal. refusal ≡ Refusal.File) }
 {
     let Ok(state) = RandomState::new(rt) else {
         return Err(Refusal::File);
     };
     let mut options = Options::new(state.hash_one(&0u8));
-    options.cache_pages = KEPT_PAGES;
+    options.cache_pages = pages as usize;
     Ok(options)
 }
 
@@ -58,13 +94,14 @@ fn refusal_of(error: &Error) -> Refusal
 
 /// Opens the database in the file at `path`, or creates it; its log is copied into it first.
 /// `start` says what is known of the file's contents (`Unknown`: nothing). It reads and checks the
-/// whole file, and takes memory for pages as it reads them.
+/// whole file, and takes memory for the pages that `room` asks for.
 ///
 /// `File`: the file can't be opened or created, isn't a database, or is in use. `NoMemory`: memory
 /// was refused.
 pub fn connect<S: Start>(
     rt: &HostRuntime,
     path: &str,
+    room: Room,
     start: S,
 ) -> Result<Connection<FileStore<FileFrom<S>>>, Refusal>
     ensures outside { IfOk result (λ conn. conn.in_transaction ≡ false) }
@@ -74,8 +111,9 @@ pub fn connect<S: Start>(
     ensures named { IfErr result (λ refusal.
         (refusal ≡ Refusal.NoMemory) ⊎ (refusal ≡ Refusal.File)) }
 {
+    let pages = pages(room, length_at(rt, path));
     let files = files_at(rt, path, start)?;
-    let options = options(rt)?;
+    let options = options(rt, pages)?;
     match Connection::open_files(rt.alloc(), files, options) {
         Ok(conn) => Ok(conn),
         Err((error, _)) => Err(refusal_of(&error)),

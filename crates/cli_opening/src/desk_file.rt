@@ -1,19 +1,24 @@
 //! A desk's file: made, opened and closed.
 ghost use Rattle.std.specs.Prelude.{◌≡◌, None, IfErr, IfOk, IfSome, OnOk, false, true};
 ghost use Rattle.cli_opening.specs.Closing.{Ends, FailsForGood, IsClosed};
-ghost use Rattle.cli_opening.specs.Faults.{IsClosingRefusal, IsFileRefusal, IsLasting};
+ghost use Rattle.cli_opening.specs.Faults.{IsClosingRefusal, IsLasting};
 ghost use Rattle.cli_opening.specs.Faults.{IsMakingRefusal, IsOpeningRefusal};
 ghost use Rattle.cli_opening.specs.Opening.{IsMade, IsOpened, Makes, Opens};
-ghost use Rattle.cli_lines.specs.Faults.{IsRow};
+ghost use Rattle.cli_lines.specs.Faults.{IsFileRefusal, IsRow};
 
-use crate::connect;
+use crate::connecting::{Room, connect};
 use cli_lines::{Ending, Fault, Outcome};
 use desk_bytes::{Guid, Refusal};
 use desk_store::Desk;
 use sqlite::{Alter, Connection, File, FileStore, Unknown};
 use sqlite_disk::Disk;
 use std::alloc::Global;
+use std::fs::OpenOptions;
+use std::os::unix::fs::OpenOptionsExt;
 use std::{fs, io};
+
+/// The mode of a desk's file: its user alone may read and write it.
+const PRIVATE: u32 = 0o600;
 
 /// A desk in a file.
 pub type FileDesk = Desk<FileStore<File>>;
@@ -29,6 +34,23 @@ fn is_there(rt: &HostRuntime, path: &str) -> Result<bool, Refusal>
 {
     match fs::exists(rt, path) {
         Ok(there) => Ok(there),
+        Err(error) if error.kind() == io::ErrorKind::OutOfMemory => Err(Refusal::NoMemory),
+        Err(_) => Err(Refusal::File),
+    }
+}
+
+/// Makes an empty file that its user alone may read and write, if there is nothing at the path.
+fn make_private(rt: &HostRuntime, path: &str) -> Result<(), Refusal>
+    ensures { IfErr result IsFileRefusal }
+{
+    match OpenOptions::new()
+        .write(true)
+        .create_new(true)
+        .mode(PRIVATE)
+        .open(rt, path)
+    {
+        Ok(_) => Ok(()),
+        Err(error) if error.kind() == io::ErrorKind::AlreadyExists => Ok(()),
         Err(error) if error.kind() == io::ErrorKind::OutOfMemory => Err(Refusal::NoMemory),
         Err(_) => Err(Refusal::File),
     }
@@ -53,13 +75,24 @@ fn make_over<S: Alter + Drop>(
     }
 }
 
-/// Makes a desk in a file, which is created if it doesn't exist.
+/// Makes a desk in an existing file.
+fn make_there(rt: &HostRuntime, path: &str, owner: &Guid) -> Result<FileDesk, Refusal>
+    ensures made { IfOk result (IsMade ⟦<File as Disk>⟧ owner.now) }
+    ensures named { IfErr result IsMakingRefusal }
+{
+    match connect(rt, path, Room::AsItIs, Unknown) {
+        Ok(conn) => make_over(rt.alloc(), conn, owner),
+        Err(refusal) => Err(refusal),
+    }
+}
+
+/// Makes a desk in a file. One that doesn't exist is created, for its user alone, and so is its log.
 pub fn make(rt: &HostRuntime, path: &str, owner: &Guid) -> Result<FileDesk, Refusal>
     ensures made { IfOk result (IsMade ⟦<File as Disk>⟧ owner.now) }
     ensures named { IfErr result IsMakingRefusal }
 {
-    match connect(rt, path, Unknown) {
-        Ok(conn) => make_over(rt.alloc(), conn, owner),
+    match make_private(rt, path) {
+        Ok(()) => make_there(rt, path, owner),
         Err(refusal) => Err(refusal),
     }
 }
@@ -80,23 +113,23 @@ fn open_over<S: Alter + Drop>(alloc: Global, conn: Connection<S>) -> Result<Desk
 }
 
 /// Opens an existing file, and the desk in it.
-fn open_there(rt: &HostRuntime, path: &str) -> Result<FileDesk, Refusal>
+fn open_there(rt: &HostRuntime, path: &str, room: Room) -> Result<FileDesk, Refusal>
     ensures opened { IfOk result (IsOpened ⟦<File as Disk>⟧) }
     ensures named { IfErr result IsOpeningRefusal }
 {
-    match connect(rt, path, Unknown) {
+    match connect(rt, path, room, Unknown) {
         Ok(conn) => open_over(rt.alloc(), conn),
         Err(refusal) => Err(refusal),
     }
 }
 
 /// Opens the desk in a file. File: it doesn't exist, and isn't created.
-pub fn open(rt: &HostRuntime, path: &str) -> Result<FileDesk, Refusal>
+pub fn open(rt: &HostRuntime, path: &str, room: Room) -> Result<FileDesk, Refusal>
     ensures opened { IfOk result (IsOpened ⟦<File as Disk>⟧) }
     ensures named { IfErr result IsOpeningRefusal }
 {
     match is_there(rt, path) {
-        Ok(true) => open_there(rt, path),
+        Ok(true) => open_there(rt, path, room),
         Ok(false) => Err(Refusal::File),
         Err(refusal) => Err(refusal),
     }

@@ -1,10 +1,12 @@
-//! A desk's file: made, opened and closed.
+//! A desk's file: made, opened and closed, and worked on in between.
 #![tactic(auto)]
 
 mod connecting;
 mod desk_file;
 mod laws;
+mod working;
 
-pub use connecting::connect;
+pub use connecting::{Room, connect};
 pub use desk_file::{FileDesk, close_after, make, open};
 pub use laws::a_failed_close_is_a_device;
+pub use working::{Work, Worked, make_desk, on_desk};

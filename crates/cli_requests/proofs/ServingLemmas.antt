@@ -4,8 +4,8 @@ use Rattle.desk_bytes.specs.declared.refusal.Refusal.{Refusal}
 use Rattle.http_net.specs.Faults.{IsAnsweringRefusal, IsServingRefusal}
 use Rattle.cli_opening.specs.Faults.{IsOfOpening}
 
-pub served_apart : {X : Type 0} (refusal : Refusal) → IsServingRefusal refusal → IsOfOpening refusal → X
+pub served_apart : (refusal : Refusal) → IsServingRefusal refusal → IsOfOpening refusal → ⊥
 served_apart refusal served opening = grind arith
 
-pub answering_apart : {X : Type 0} (refusal : Refusal) → IsAnsweringRefusal refusal → IsOfOpening refusal → X
+pub answering_apart : (refusal : Refusal) → IsAnsweringRefusal refusal → IsOfOpening refusal → ⊥
 answering_apart refusal answering opening = grind arith

@@ -1,7 +1,9 @@
--- The work of answering and serving requests on a desk over files, and its end.
+-- The work of answering and serving requests on a desk, and on the desk in files.
 use Rattle.std.specs.Prelude.{◌≡◌, ◌⊎◌, ℕ, List, Option, Result, Ok, Err, true}
-use Rattle.sqlite.specs.Files.{file_state, over_files}
+use Rattle.sqlite.specs.Files.{over_files}
+use Rattle.sqlite.specs.Held.{state}
 use Rattle.sqlite.specs.State.{HasCleanDisk}
+use Rattle.sqlite.specs.Store as store
 use Rattle.sqlite_disk.specs.declared.Disk.{Ghosts}
 use Rattle.sqlite_store.specs.declared.store.FileStore.{FileStore}
 use Rattle.desk_answers.specs.declared.open_desk.OpenDesk.{OpenDesk}
@@ -17,7 +19,7 @@ use Rattle.http_net.specs.Turns.{ServesInTurn}
 use Rattle.http_net.specs.Wire.{IsOneRequest}
 use Rattle.desk_store.specs.Desks.{ShowsDesk}
 use Rattle.desk_store.specs.declared.desk.Desk.{Desk}
-use Rattle.cli_opening.specs.Closing.{Ends}
+use Rattle.cli_opening.specs.Works.{WorksAt}
 use Rattle.cli_lines.specs.declared.ending.Ending.{Ending}
 use Rattle.cli_lines.specs.declared.ending.Outcome.{Outcome}
 use Rattle.cli_lines.specs.declared.ending.Outcome.TheVariants.{Done}
@@ -40,29 +42,31 @@ ServesPort serves count old new told = ((told ≡ Err refusals.Read) × (new ≡
 abbrev pub WorksInTurn : {D : Type 0} → (D → D → Result Served HttpFault → Type 0) → ℕ → D → D → Result Outcome Fault → Type 0
 WorksInTurn serves count old new work = (told : Result Unit Refusal) × (work ≡ work_of told) × ServesPort serves count old new told
 
--- a desk over files serves one request
-abbrev pub ServesRequest : {D : Type 0} → (g : Ghosts D) → OpenDesk (FileStore D g) → OpenDesk (FileStore D g) → Result Served HttpFault → Type 0
-ServesRequest g = IsOneRequest (λ kept owner cs. ShowsDesk over_files kept.desk owner cs)
-    (λ kept. HasCleanDisk (file_state kept.desk.conn)) (λ kept. kept.desk.needs_reopening ≡ true)
+module _ {S : Type 0} (g : store.Ghosts S) where
+  -- a desk serves one request
+  abbrev pub ServesRequest : OpenDesk S → OpenDesk S → Result Served HttpFault → Type 0
+  ServesRequest = IsOneRequest (λ kept owner cs. ShowsDesk g kept.desk owner cs)
+      (λ kept. HasCleanDisk (state g kept.desk.conn)) (λ kept. kept.desk.needs_reopening ≡ true)
 
--- a desk over files answers one request of an input
-abbrev pub AnswersRequest : {D : Type 0} → (g : Ghosts D) → (input before after : Option (List ℕ)) → OpenDesk (FileStore D g) → OpenDesk (FileStore D g) → Result Served HttpFault → Type 0
-AnswersRequest g = AnswersOne (λ kept owner cs. ShowsDesk over_files kept.desk owner cs)
-    (λ kept. HasCleanDisk (file_state kept.desk.conn)) (λ kept. kept.desk.needs_reopening ≡ true)
+  -- a desk answers one request of an input
+  abbrev pub AnswersRequest : (input before after : Option (List ℕ)) → OpenDesk S → OpenDesk S → Result Served HttpFault → Type 0
+  AnswersRequest = AnswersOne (λ kept owner cs. ShowsDesk g kept.desk owner cs)
+      (λ kept. HasCleanDisk (state g kept.desk.conn)) (λ kept. kept.desk.needs_reopening ≡ true)
+
+  -- this was done by the desk, as one that answers calls
+  pub record ByCalls (did : OpenDesk S → OpenDesk S → Result Outcome Fault → Type 0) (desk left : Desk S) (work : Result Outcome Fault) : Type 0 where
+    pub opened : OpenDesk S
+    pub closed : OpenDesk S
+    pub before : opened.desk ≡ desk
+    pub after : closed.desk ≡ left
+    pub served : did opened closed work
 
 module _ {D : Type 0} (g : Ghosts D) where
   -- this many connections were served by the desk, one after another, and it is closed
-  pub record Serves (count : ℕ) (ending : Ending) (desk : Desk (FileStore D g)) : Type 0 where
-    pub opened : OpenDesk (FileStore D g)
-    pub left : OpenDesk (FileStore D g)
-    pub same : opened.desk ≡ desk
-    pub served : WorksInTurn (ServesRequest g) count opened left ending.work
-    pub ended : Ends g left.desk ending
+  abbrev pub Serves : (count : ℕ) (ending : Ending) (desk : Desk (FileStore D g)) → Type 0
+  Serves count ending desk = WorksAt g (ByCalls over_files (WorksInTurn (ServesRequest over_files) count) desk) ending
 
   -- one request of an input was answered by the desk, and it is closed
-  pub record AnswersOnce (input before after : Option (List ℕ)) (ending : Ending) (desk : Desk (FileStore D g)) : Type 0 where
-    pub opened : OpenDesk (FileStore D g)
-    pub left : OpenDesk (FileStore D g)
-    pub same : opened.desk ≡ desk
-    pub served : WorksOnce (AnswersRequest g input before after) opened left ending.work
-    pub ended : Ends g left.desk ending
+  abbrev pub AnswersOnce : (input before after : Option (List ℕ)) (ending : Ending) (desk : Desk (FileStore D g)) → Type 0
+  AnswersOnce input before after ending desk =
+      WorksAt g (ByCalls over_files (WorksOnce (AnswersRequest over_files input before after)) desk) ending

@@ -2,5 +2,7 @@
 #![tactic(auto)]
 
 mod requests;
+mod running;
 
 pub use requests::{answer_from, serve_from};
+pub use running::{run_answer, run_serve};

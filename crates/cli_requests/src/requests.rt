@@ -7,20 +7,24 @@ ghost use Rattle.cli_lines.specs.Faults.{IsRow};
 ghost use Rattle.cli_opening.specs.Faults.{IsClosingRefusal, IsLasting, IsOfOpening};
 ghost use Rattle.cli_opening.specs.Faults.{IsOpeningRefusal};
 ghost use Rattle.cli_opening.specs.Works.{AtADesk, IsUnopened};
-ghost use Rattle.cli_requests.specs.Works.{AnswersOnce, Serves, WorksInTurn, WorksOnce};
+ghost use Rattle.cli_lines.specs.declared.ending.Outcome.TheVariants.{Done};
+ghost use Rattle.cli_requests.specs.Works.{AnswersOnce, AnswersRequest, ByCalls};
+ghost use Rattle.cli_requests.specs.Works.{Serves, ServesRequest, WorksInTurn, WorksOnce};
 ghost use Rattle.desk_http.specs.Serving.{AnswersOne};
 
 use cli_lines::{Ending, Fault, Outcome};
-use cli_opening::{close_after, open};
+use cli_opening::{Room, Work, Worked, on_desk};
 use desk_answers::OpenDesk;
+use desk_bytes::Refusal;
 use desk_calls::Answering;
 use desk_store::Desk;
 use http_net::{answer_connection, listen, serve};
 use http_requests::Routes;
-use sqlite::{File, FileStore};
+use sqlite::{Alter, File};
 use sqlite_disk::Disk;
 use std::alloc::Global;
 use std::io::{Read, Write};
+use std::marker::PhantomData;
 
 /// Answers one request of the reader, as a subcommand's work.
 fn answer_one<D: Answering, R: Read + Drop, W: Write>(
@@ -41,35 +45,43 @@ fn answer_one<D: Answering, R: Read + Drop, W: Write>(
     }
 }
 
-/// Answers one request of the reader, for an open desk over files, and closes it.
-fn answer_at<D: Disk + Drop, R: Read + Drop, W: Write>(
-    alloc: Global,
-    routes: &Routes,
-    desk: Desk<FileStore<D>>,
+/// Answers one request of a reader.
+#[derive(Drop)]
+struct OneRequest<'a, R, W> {
+    routes: &'a Routes,
     reader: R,
-    writer: &mut W,
-) -> Ending
-    ensures answered { AnswersOnce D.Disk (R.remaining reader)
-        (W.contents writer.old) (W.contents writer.new) result desk }
-    ensures done { IfOk result.work (λ outcome. outcome ≡ Outcome.Done) }
-    ensures named { IfErr result.work (IsRow IsAnsweringRefusal) }
-    ensures closing { IfSome result.closing (IsRow IsClosingRefusal) }
-    ensures let_go { IfErr result.work (λ fault. IsLasting fault.refusal → result.closing ≡ None) }
-{
-    let mut desk = OpenDesk::new(desk);
-    let work = answer_one(alloc, routes, &mut desk, reader, writer);
-    close_after(desk.into_desk(), work)
+    writer: PhantomData<W>,
 }
 
-/// Answers one request of the reader by this table of paths, for the desk in a file; if the reader
-/// has no byte, nothing is written. The work is done, whatever the response, unless the desk must
-/// be opened again after it: then the fault is Store or Reopen.
+impl<'a, R: Read + Drop, W: Write> Work for OneRequest<'a, R, W> {
+    type Output = W;
+
+    ghost does = { λ _ g w before after. ByCalls g (WorksOnce (AnswersRequest g
+        (R.remaining w.reader) (W.contents before) (W.contents after))) };
+
+    ghost leaves = { λ _ outcome. outcome ≡ Done };
+
+    ghost stops = { IsRow IsAnsweringRefusal };
+
+    fn work<S: Alter + Drop>(self, rt: &HostRuntime, desk: Desk<S>, output: &mut W) -> Worked<S> {
+        let OneRequest { routes, reader, .. } = self;
+        let mut desk = OpenDesk::new(desk);
+        let work = answer_one(rt.alloc(), routes, &mut desk, reader, output);
+        Worked {
+            desk: desk.into_desk(),
+            work,
+        }
+    }
+}
+
+/// Answers one request of the reader, for the desk in a file; if the reader has no byte, nothing is
+/// written. The work is done, whatever the response, unless the desk must be opened again after it:
+/// then the fault is Store or Reopen.
 ///
 /// The faults of the desk's file come first, as for `add_person`. Read, NoMemory: the request
 /// wasn't read. Write: a prefix of the response was written, and the answer's changes stay.
 pub fn answer_from<R: Read + Drop, W: Write>(
     rt: &HostRuntime,
-    routes: &Routes,
     path: &str,
     reader: R,
     writer: &mut W,
@@ -85,10 +97,15 @@ pub fn answer_from<R: Read + Drop, W: Write>(
     ensures closing { IfSome result.closing (IsRow IsClosingRefusal) }
     ensures let_go { IfErr result.work (λ fault. IsLasting fault.refusal → result.closing ≡ None) }
 {
-    match open(rt, path) {
-        Ok(desk) => answer_at(rt.alloc(), routes, desk, reader, writer),
-        Err(refusal) => Ending::without_desk(refusal),
-    }
+    let Ok(routes) = Routes::new(rt.alloc()) else {
+        return Ending::without_desk(Refusal::NoMemory);
+    };
+    let request: OneRequest<'_, R, W> = OneRequest {
+        routes: &routes,
+        reader,
+        writer: PhantomData,
+    };
+    on_desk(rt, path, Room::AsItIs, request, writer)
 }
 
 /// Serves `count` connections at this port of 127.0.0.1, for a desk, as a subcommand's work.
@@ -114,33 +131,40 @@ fn serve_all<D: Answering>(
     }
 }
 
-/// Serves `count` connections at this port of 127.0.0.1, for an open desk over files, and closes
-/// it.
-fn serve_at<D: Disk + Drop>(
-    rt: &HostRuntime,
-    routes: &Routes,
-    desk: Desk<FileStore<D>>,
+/// Serves connections at a port of 127.0.0.1.
+#[derive(Drop)]
+struct Connections<'a> {
+    routes: &'a Routes,
     port: u16,
     count: u32,
-) -> Ending
-    ensures served { Serves D.Disk count result desk }
-    ensures done { IfOk result.work (λ outcome. outcome ≡ Outcome.Done) }
-    ensures named { IfErr result.work (IsRow IsServingRefusal) }
-    ensures closing { IfSome result.closing (IsRow IsClosingRefusal) }
-    ensures let_go { IfErr result.work (λ fault. IsLasting fault.refusal → result.closing ≡ None) }
-{
-    let mut desk = OpenDesk::new(desk);
-    let work = serve_all(rt, routes, &mut desk, port, count);
-    close_after(desk.into_desk(), work)
 }
 
-/// Serves `count` connections at this port of 127.0.0.1 by this table of paths, one request each,
-/// one after another, for the desk in a file. A fault of one connection ends only that connection.
+impl<'a> Work for Connections<'a> {
+    type Output = ();
+
+    ghost does = { λ _ g w _ _. ByCalls g (WorksInTurn (ServesRequest g) w.count) };
+
+    ghost leaves = { λ _ outcome. outcome ≡ Done };
+
+    ghost stops = { IsRow IsServingRefusal };
+
+    fn work<S: Alter + Drop>(self, rt: &HostRuntime, desk: Desk<S>, _output: &mut ()) -> Worked<S> {
+        let mut desk = OpenDesk::new(desk);
+        let work = serve_all(rt, self.routes, &mut desk, self.port, self.count);
+        Worked {
+            desk: desk.into_desk(),
+            work,
+        }
+    }
+}
+
+/// Serves `count` connections at this port of 127.0.0.1, one request each, one after another, for
+/// the desk in a file. A fault of one connection ends only that connection.
 ///
 /// The faults of the desk's file come first, as for `add_person`. Read: the port couldn't be
 /// opened, or no connection could be accepted. Store, Reopen: that response was written, and the
 /// desk must be opened again.
-pub fn serve_from(rt: &HostRuntime, routes: &Routes, path: &str, port: u16, count: u32) -> Ending
+pub fn serve_from(rt: &HostRuntime, path: &str, port: u16, count: u32) -> Ending
     ensures served { IsUnopened result ⊎ AtADesk (Serves ⟦<File as Disk>⟧ count result) }
     ensures done { IfOk result.work (λ outcome. outcome ≡ Outcome.Done) }
     ensures named { IfErr result.work (IsRow (λ refusal.
@@ -149,8 +173,13 @@ pub fn serve_from(rt: &HostRuntime, routes: &Routes, path: &str, port: u16, coun
     ensures closing { IfSome result.closing (IsRow IsClosingRefusal) }
     ensures let_go { IfErr result.work (λ fault. IsLasting fault.refusal → result.closing ≡ None) }
 {
-    match open(rt, path) {
-        Ok(desk) => serve_at(rt, routes, desk, port, count),
-        Err(refusal) => Ending::without_desk(refusal),
-    }
+    let Ok(routes) = Routes::new(rt.alloc()) else {
+        return Ending::without_desk(Refusal::NoMemory);
+    };
+    let connections = Connections {
+        routes: &routes,
+        port,
+        count,
+    };
+    on_desk(rt, path, Room::ToGrow, connections, &mut ())
 }

@@ -1,11 +1,16 @@
-//! The words of the program's command line, and their values.
+//! The words of the program's command line, their values, and the subcommands that need no desk.
 #![tactic(auto)]
 
+mod alone;
+mod jobs;
 mod line;
+mod telling;
 mod values;
 mod words_reading;
 
+pub use jobs::{Given, Job, given_words, read_job};
 pub use line::{AuditWords, PersonWords, ServeWords, Words, WordsFault};
+pub use telling::tell_ending;
 pub use values::{
     Place, Stop, Word, enrolled_from, export_named, owner_from, person_from, place_from,
     proposal_from,

@@ -1,50 +1,34 @@
 //! The Secure Boot signing and revocation desk.
 #![tactic(auto)]
 
-mod run;
-
-use cli_lines::Fault;
-use cli_words::{Stop, WordsFault, words};
-use desk_bytes::Refusal;
-use run::{MISUSED, run, stop};
+use cli_audit::run_audit;
+use cli_files::{run_add, run_export, run_impact, run_init, run_verdict};
+use cli_lines::Ending;
+use cli_requests::{run_answer, run_serve};
+use cli_words::{Job, given_words, read_job, tell_ending};
 use std::process::ExitCode;
-use std::rt::Env;
-use std::{env, io};
 
-/// The words after the program's name. Fails also if a word isn't UTF-8.
-fn given_words(rt: &(impl Env + AllocGlobal)) -> io::Result<Vec<String>> {
-    let mut given = Vec::new(rt.alloc());
-    for word in env::args(rt)?.skip(1) {
-        given.push(word)?;
+/// Does a subcommand's job at a desk.
+fn run(rt: &HostRuntime, job: Job<'_>) -> Ending {
+    match job {
+        Job::Init { db, owner } => run_init(rt, db, &owner),
+        Job::Add { db, key, person } => run_add(rt, db, key, person),
+        Job::Serve { db, place } => run_serve(rt, db, place.port, place.count),
+        Job::Answer { db } => run_answer(rt, db),
+        Job::Judge { db, file } => run_verdict(rt, db, file),
+        Job::Foretell { db, number } => run_impact(rt, db, number),
+        Job::Export { db, what } => run_export(rt, db, what),
+        Job::Audit { owner, file, what } => run_audit(rt, &owner, file, what),
     }
-    Ok(given)
 }
 
 fn main(rt: HostRuntime) -> ExitCode {
     let given = match given_words(&rt) {
         Ok(given) => given,
-        Err(error) if error.kind() == io::ErrorKind::OutOfMemory => {
-            return stop(&rt, Stop::Fault(Fault::from(Refusal::NoMemory)));
-        }
-        Err(_) => {
-            let _ = eprintln!(rt; "error: a word is no UTF-8");
-            return ExitCode::from(MISUSED);
-        }
+        Err(status) => return ExitCode::from(status),
     };
-    match words(rt.alloc(), given.as_slice()) {
-        Ok(line) => run(&rt, line),
-        Err(WordsFault::NoMemory) => stop(&rt, Stop::Fault(Fault::from(Refusal::NoMemory))),
-        Err(WordsFault::Refused(error)) => {
-            let _ = error.print(&rt);
-            if error.use_stderr() {
-                ExitCode::from(MISUSED)
-            } else {
-                ExitCode::SUCCESS
-            }
-        }
-        Err(WordsFault::Missing) => {
-            let _ = eprintln!(rt; "error: a word is missing");
-            ExitCode::from(MISUSED)
-        }
+    match read_job(&rt, &given) {
+        Ok(job) => ExitCode::from(tell_ending(&rt, run(&rt, job))),
+        Err(status) => ExitCode::from(status),
     }
 }

@@ -4,3 +4,4 @@ pub mod BodyLemmas
 pub mod EmptyLineLemmas
 pub mod NumberLemmas
 pub mod RouteLemmas
+mod FillingLemmas

@@ -11,9 +11,15 @@ use std::alloc::{AllocError, Global};
 use std::marker::Model;
 
 /// The table of paths, made once for all requests.
-#[derive(Drop)]
 pub struct Routes {
     router: Router<Resource>,
+}
+
+// It is written out, so that a caller does not prove again how a router is dropped.
+impl Drop for Routes {
+    fn drop(self) {
+        let Routes { router: _ } = self;
+    }
 }
 
 impl Model for Routes {

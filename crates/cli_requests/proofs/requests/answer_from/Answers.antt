@@ -1,47 +1,15 @@
-use Rattle.std.proofs.Common.{inl, inr, refl}
+use Rattle.std.proofs.Common.{inl, refl}
 use Rattle.std.proofs.KnownBytes.{Keeps-refl}
 use Rattle.http_net.specs.Faults.{IsAnsweringRefusal}
-use Rattle.cli_opening.proofs.EndingLemmas.{also, never_of_opening}
-use Rattle.cli_requests.proofs.ServingLemmas.{answering_apart}
+use Rattle.cli_opening.specs.Faults.{IsOpeningRefusal}
+use Rattle.cli_opening.proofs.EndingLemmas.{either_row, first_keeps, unopened_keeps}
 use Rattle.cli_requests.proofs.requests.answer_from.Goals as goal
 
--- the desk was opened
+pub returns-clause-answered : goal.returns-clause-answered
+returns-clause-answered g c = unopened_keeps g.W.Write.contents _ _ c.on_desk.result c.on_desk.ensures.did
 
-pub returns-in-Ok-clause-answered : goal.returns-in-Ok-clause-answered
-returns-in-Ok-clause-answered g c =
-    inr (record { desk = c.in-Ok.desk; opened = c.in-Ok.ensures.opened; done = c.answer_at.ensures.answered })
+pub returns-clause-named : goal.returns-clause-named
+returns-clause-named g c = either_row IsOpeningRefusal IsAnsweringRefusal c.on_desk.result.work c.on_desk.ensures.named
 
-pub returns-in-Ok-clause-done : goal.returns-in-Ok-clause-done
-returns-in-Ok-clause-done g c = c.answer_at.ensures.done
-
-pub returns-in-Ok-clause-named : goal.returns-in-Ok-clause-named
-returns-in-Ok-clause-named g c = also IsAnsweringRefusal c.answer_at.result.work c.answer_at.ensures.named
-
-pub returns-in-Ok-clause-first : goal.returns-in-Ok-clause-first
-returns-in-Ok-clause-first g c = never_of_opening IsAnsweringRefusal answering_apart c.answer_at.result.work c.answer_at.ensures.named
-
-pub returns-in-Ok-clause-closing : goal.returns-in-Ok-clause-closing
-returns-in-Ok-clause-closing g c = c.answer_at.ensures.closing
-
-pub returns-in-Ok-clause-let_go : goal.returns-in-Ok-clause-let_go
-returns-in-Ok-clause-let_go g c = c.answer_at.ensures.let_go
-
--- no desk was opened
-
-pub returns-in-Err-clause-answered : goal.returns-in-Err-clause-answered
-returns-in-Err-clause-answered g c = inl ((c.in-Err.refusal, c.in-Err.ensures.named, c.without_desk.ensures), Keeps-refl _)
-
-pub returns-in-Err-clause-done : goal.returns-in-Err-clause-done
-returns-in-Err-clause-done g c = rw c.without_desk.ensures tt
-
-pub returns-in-Err-clause-named : goal.returns-in-Err-clause-named
-returns-in-Err-clause-named g c = rw c.without_desk.ensures (refl, inl c.in-Err.ensures.named)
-
-pub returns-in-Err-clause-first : goal.returns-in-Err-clause-first
-returns-in-Err-clause-first g c = rw c.without_desk.ensures (λ opening. (refl, Keeps-refl _))
-
-pub returns-in-Err-clause-closing : goal.returns-in-Err-clause-closing
-returns-in-Err-clause-closing g c = rw c.without_desk.ensures tt
-
-pub returns-in-Err-clause-let_go : goal.returns-in-Err-clause-let_go
-returns-in-Err-clause-let_go g c = rw c.without_desk.ensures (λ lasting. refl)
+pub returns-clause-first : goal.returns-clause-first
+returns-clause-first g c = first_keeps g.W.Write.contents _ _ _ c.on_desk.result.work c.on_desk.ensures.first

@@ -1,5 +1,5 @@
-use Rattle.cli_files.proofs.FileLemmas.{start_of}
-use Rattle.cli_files.proofs.file.read_image.Goals as goal
+use Rattle.cli_lines.proofs.FileLemmas.{start_of}
+use Rattle.cli_lines.proofs.file.read_image.Goals as goal
 
 pub returns-clause-start : goal.returns-clause-start
 returns-clause-start g c =

@@ -10,7 +10,7 @@ use std::io::Write;
 
 /// What an audit tells of minutes.
 #[derive(Drop)]
-pub(crate) struct Told {
+pub(crate) struct Summary {
     /// How many lines they have.
     pub calls: u64,
     /// The SHA-256 of the minutes, and of each export of their desk.
@@ -22,7 +22,7 @@ pub(crate) struct Told {
 
 /// Writes the lines of an audit: `calls N`, `minutes HEX`, `dbx HEX`, `db HEX` and `level HEX`.
 #[tactic(auto, unfolding(crate::specs::Lines::told_lines))]
-pub(crate) fn put_told<W: Write>(told: &Told, writer: &mut W) -> Result<(), WriteFailed>
+pub(crate) fn put_told<W: Write>(told: &Summary, writer: &mut W) -> Result<(), WriteFailed>
     ensures ok { OnOk result (Appends (W.contents writer.old) (W.contents writer.new)
         (told_lines told.now)) }
     ensures err { OnErr result (AppendsBeginning (W.contents writer.old) (W.contents writer.new)

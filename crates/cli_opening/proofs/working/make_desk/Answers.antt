@@ -1,6 +1,6 @@
 use Rattle.std.proofs.Common.{refl}
-use Rattle.cli_files.proofs.WorkLemmas.{made_desk}
-use Rattle.cli_files.proofs.working.make_desk.Goals as goal
+use Rattle.cli_opening.proofs.EndingLemmas.{made_desk}
+use Rattle.cli_opening.proofs.working.make_desk.Goals as goal
 
 -- the desk was made
 

@@ -1,18 +1,19 @@
 //! Files read to their end.
 ghost use Rattle.std.specs.Prelude.{◌≡◌, ◌⊎◌, ◌+◌, ◌≤◌, length, IfErr, IfOk, IsErrOf};
-ghost use Rattle.cli_files.specs.Faults.{IsUnreadRefusal};
-ghost use Rattle.cli_files.specs.Files.{IsLonger, IsStartOf, IsWhole};
-ghost use Rattle.cli_lines.specs.Faults.{IsRow, row_of};
-ghost use Rattle.cli_opening.specs.Faults.{IsFileRefusal};
+ghost use Rattle.cli_lines.specs.Faults.{IsFileRefusal, IsRow, IsUnreadRefusal, row_of};
+ghost use Rattle.cli_lines.specs.Files.{IsLonger, IsStartOf, IsWhole};
 
-use cli_lines::{Fault, MOST_BYTES};
+use crate::fault::Fault;
+use crate::list_lines::MOST_BYTES;
 use desk_bytes::{LONGEST_IMAGE, Refusal, Watch, read_all};
 use pe_image::Pieces;
 use std::rt::Files;
 use std::{fs, io};
 
 /// Opens a file.
-fn open<R: Files + AllocGlobal>(rt: &R, path: &str) -> Result<R::File, Fault>
+///
+/// File: it can't be opened, which includes that it doesn't exist. NoMemory: memory was refused.
+pub fn open_file<R: Files + AllocGlobal>(rt: &R, path: &str) -> Result<R::File, Fault>
     ensures { IfErr result (IsRow IsFileRefusal) }
 {
     match fs::open(rt, path) {
@@ -36,7 +37,7 @@ pub fn read_file<R: Files + AllocGlobal>(rt: &R, path: &str) -> Result<Vec<u8>, 
     ensures named { IfErr result (IsRow (λ refusal.
         IsUnreadRefusal refusal ⊎ (refusal ≡ Refusal.TooLong))) }
 {
-    let mut file = open(rt, path)?;
+    let mut file = open_file(rt, path)?;
     Ok(read_all(rt.alloc(), &mut file, MOST_BYTES)?)
 }
 
@@ -49,6 +50,6 @@ pub fn read_image<R: Files + AllocGlobal>(rt: &R, path: &str) -> Result<Pieces, 
     ensures bound { IfOk result (λ bytes. length bytes ≤ LONGEST_IMAGE + 1) }
     ensures named { IfErr result (IsRow IsUnreadRefusal) }
 {
-    let mut file = open(rt, path)?;
+    let mut file = open_file(rt, path)?;
     Ok(Pieces::take(rt.alloc(), &mut file, &mut Watch::new(), LONGEST_IMAGE + 1)?)
 }

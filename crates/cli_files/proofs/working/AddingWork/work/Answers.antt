@@ -1,0 +1,15 @@
+use Rattle.std.proofs.Common.{◌≡◌}
+use Rattle.cli_commands.specs.Faults.{IsAddingRefusal}
+use Rattle.cli_lines.specs.declared.ending.Outcome.TheVariants.{Done}
+use Rattle.cli_opening.proofs.EndingLemmas.{both_of, rows_apart}
+use Rattle.cli_files.proofs.ServingLemmas.{adding_apart}
+use Rattle.cli_files.proofs.working.AddingWork.work.Goals as goal
+
+pub returns-clause-did : goal.returns-clause-did
+returns-clause-did g c = (c.add-work.ensures.told, c.add-work.ensures.stopped)
+
+pub returns-clause-left : goal.returns-clause-left
+returns-clause-left g c = both_of (λ outcome. outcome ≡ Done) _ c.add-work.result c.add-work.ensures.done c.add-work.ensures.flushed
+
+pub returns-clause-apart : goal.returns-clause-apart
+returns-clause-apart g c = rows_apart IsAddingRefusal adding_apart c.add-work.result c.add-work.ensures.named

@@ -1,0 +1,120 @@
+//! The work of a subcommand on the desk in a file. Only this file and desk_file name the system's
+//! files, whose types are costly to prove with.
+ghost use Rattle.std.specs.Prelude.{◌≡◌, ◌⊎◌, Result, None, IfErr, IfOk, IfSome, OnErr, OnOk};
+ghost use Rattle.sqlite.specs.Files.{over_files};
+ghost use Rattle.sqlite.specs.Store.{Ghosts};
+ghost use Rattle.cli_lines.specs.Faults.{IsRow};
+ghost use Rattle.cli_lines.specs.declared.ending.Outcome.{Outcome as Came};
+ghost use Rattle.cli_lines.specs.declared.fault.Fault.{Fault as Row};
+ghost use Rattle.desk_store.specs.declared.desk.Desk.{Desk as Shown};
+ghost use Rattle.cli_opening.specs.Faults.{IsClosingRefusal, IsLasting, IsMakingRefusal};
+ghost use Rattle.cli_opening.specs.Faults.{IsOfOpening, IsOpeningRefusal};
+ghost use Rattle.cli_opening.specs.Works.{IsUnopened, MakesDesk, WorksAt, WorksOn};
+
+use crate::connecting::Room;
+use crate::desk_file::{close_after, make, open};
+use cli_lines::{Ending, Fault, Outcome};
+use desk_bytes::Guid;
+use desk_store::Desk;
+use sqlite::{Alter, File, FileStore};
+use sqlite_disk::Disk;
+
+/// A desk, and the result of a subcommand's work on it.
+pub struct Worked<S: Alter> {
+    pub desk: Desk<S>,
+    pub work: Result<Outcome, Fault>,
+}
+
+/// The work of a subcommand on an open desk, over any store.
+pub trait Work: Drop {
+    /// What it writes to.
+    type Output;
+
+    /// What it does: of the output before and after it, the desk before and after it, and its
+    /// result.
+    ghost does: { (S : Type 0) → Ghosts S → Self → Self.Output → Self.Output
+        → Shown S → Shown S → Result Came Row → Type 0 };
+
+    /// The property of the output once it has this outcome.
+    ghost leaves: { Self.Output → Came → Type 0 };
+
+    /// The faults that stop it.
+    ghost stops: { Row → Type 0 };
+
+    /// Does it, and returns the desk.
+    fn work<S: Alter + Drop>(
+        self,
+        rt: &HostRuntime,
+        desk: Desk<S>,
+        output: &mut Self::Output,
+    ) -> Worked<S>
+        ensures did { does S S.Store self output.old output.new desk result.desk result.work }
+        ensures left { IfOk result.work (leaves output.new) }
+        ensures named { IfErr result.work stops }
+
+        // None of its faults is one that only an opening gives.
+        ensures apart { IfErr result.work (λ fault. IsOfOpening fault.refusal → ⊥) };
+}
+
+/// Does the work on an open desk over files, and closes it.
+fn work_at<D: Disk + Drop, W: Work>(
+    rt: &HostRuntime,
+    desk: Desk<FileStore<D>>,
+    work: W,
+    output: &mut W::Output,
+) -> Ending
+    ensures did { WorksAt D.Disk (W.Work.does _ over_files work output.old output.new desk) result }
+    ensures left { IfOk result.work (W.Work.leaves output.new) }
+    ensures named { IfErr result.work W.Work.stops }
+    ensures apart { IfErr result.work (λ fault. IsOfOpening fault.refusal → ⊥) }
+    ensures closing { IfSome result.closing (IsRow IsClosingRefusal) }
+    ensures let_go { IfErr result.work (λ fault. IsLasting fault.refusal → result.closing ≡ None) }
+{
+    let Worked { desk, work } = work.work(rt, desk, output);
+    close_after(desk, work)
+}
+
+/// Does the work on the desk in a file, and closes it.
+///
+/// The faults of the desk's file come first. File: the file doesn't exist, or can't be opened.
+/// NotADesk, Version: it holds no desk that this program knows.
+pub fn on_desk<W: Work>(
+    rt: &HostRuntime,
+    path: &str,
+    room: Room,
+    work: W,
+    output: &mut W::Output,
+) -> Ending
+    ensures did { (IsUnopened result × (output.new ≡ output.old))
+        ⊎ WorksOn ⟦<File as Disk>⟧ (W.Work.does _ over_files work output.old output.new) result }
+    ensures left { IfOk result.work (W.Work.leaves output.new) }
+    ensures named { IfErr result.work (λ fault.
+        IsRow IsOpeningRefusal fault ⊎ W.Work.stops fault) }
+    ensures first { IfErr result.work (λ fault. IsOfOpening fault.refusal
+        → (result.closing ≡ None) × (output.new ≡ output.old)) }
+    ensures closing { IfSome result.closing (IsRow IsClosingRefusal) }
+    ensures let_go { IfErr result.work (λ fault. IsLasting fault.refusal → result.closing ≡ None) }
+{
+    match open(rt, path, room) {
+        Ok(desk) => work_at(rt, desk, work, output),
+        Err(refusal) => Ending::without_desk(refusal),
+    }
+}
+
+/// Makes a desk with this owner and without calls in a file. One that doesn't exist is created, and
+/// its user alone may read it.
+///
+/// Exists: the file has a table, an index or a view with a name of the desk's already. File: it
+/// can't be opened or created, or isn't a database.
+pub fn make_desk(rt: &HostRuntime, path: &str, owner: &Guid) -> Ending
+    ensures done { IfOk result.work (λ outcome. outcome ≡ Outcome.Done) }
+    ensures named { IfErr result.work (IsRow IsMakingRefusal) }
+    ensures made { OnOk result.work (MakesDesk ⟦<File as Disk>⟧ owner.now result) }
+    ensures first { OnErr result.work (result.closing ≡ None) }
+    ensures closing { IfSome result.closing (IsRow IsClosingRefusal) }
+{
+    match make(rt, path, owner) {
+        Ok(desk) => close_after(desk, Ok(Outcome::Done)),
+        Err(refusal) => Ending::without_desk(refusal),
+    }
+}

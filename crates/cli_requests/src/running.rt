@@ -1,0 +1,14 @@
+//! The subcommands for requests, as they run. They have no clauses, so that a program that calls
+//! them loads none.
+use crate::{answer_from, serve_from};
+use cli_lines::Ending;
+
+/// Answers the request on the standard input: `answer_from`.
+pub fn run_answer(rt: &HostRuntime, db: &str) -> Ending {
+    answer_from(rt, db, rt.stdin(), &mut rt.stdout())
+}
+
+/// Serves connections: `serve_from`.
+pub fn run_serve(rt: &HostRuntime, db: &str, port: u16, count: u32) -> Ending {
+    serve_from(rt, db, port, count)
+}

@@ -1,0 +1,37 @@
+//! What a subcommand tells on standard error, and its exit status.
+ghost use Rattle.std.specs.Prelude.{◌≡◌};
+ghost use Rattle.cli_lines.specs.Endings.{status_of_ending};
+ghost use Rattle.cli_lines.specs.Statuses.{status_of};
+
+use crate::values::Stop;
+use cli_lines::{Ending, Fault, print_ending, print_fault};
+
+/// The status of words that aren't understood.
+pub(crate) const MISUSED: u8 = 2;
+
+/// Prints a fault, and returns its status.
+pub(crate) fn tell_fault(rt: &HostRuntime, fault: Fault) -> u8
+    ensures { result ≡ status_of fault.refusal }
+{
+    print_fault(fault.refusal, fault.place, &mut rt.stderr()).status
+}
+
+/// Prints why the program stopped, and returns the status for that.
+pub(crate) fn tell_stop(rt: &HostRuntime, why: Stop) -> u8 {
+    match why {
+        Stop::Word(word) => {
+            let name = word.name();
+            let _ = eprintln!(rt; "bad {name}");
+            MISUSED
+        }
+        Stop::Fault(fault) => tell_fault(rt, fault),
+    }
+}
+
+/// Prints the fault that stopped a subcommand at a desk, and then that of a failed close, and
+/// returns its status.
+pub fn tell_ending(rt: &HostRuntime, ending: Ending) -> u8
+    ensures { result ≡ status_of_ending ending }
+{
+    print_ending(ending, &mut rt.stderr()).status
+}
