@@ -1,5 +1,5 @@
 -- Minutes followed line by line.
-use Rattle.std.proofs.Common.{◌≡◌, ◌⊎◌, inl, inr, ℕ, ◌+◌, ◌<◌, ◌^◌, ◌==◌, ◌∙◌, Bool, true, false, ◌||◌, List, [], ◌∷◌, ◌++◌, length, drop, Option, None, Some, IfSome, refl, sym, ap, subst, append_assoc, arith}
+use Rattle.std.proofs.Common.{◌≡◌, ◌≢◌, ◌⊎◌, inl, inr, ℕ, ◌+◌, ◌<◌, ◌^◌, ◌==◌, ◌∙◌, Bool, true, false, ◌||◌, List, [], ◌∷◌, ◌++◌, length, drop, Option, None, Some, IfSome, refl, sym, ap, subst, append_assoc, arith, IsTrue, Result, Ok, Err, true≢false}
 use Rattle.std.specs.Prelude.{if◌then◌else◌}
 use Rattle.std.specs.Io.{StopsAt}
 use Rattle.std.specs.Io.BufRead.{drop_through, take_through}
@@ -24,6 +24,12 @@ use Rattle.desk_audit.specs.Audits.{HasFollowed, IsWrongAt}
 use Rattle.desk_audit.specs.Following.{EndsBefore, GoesOn, GoesOnWith}
 use Rattle.desk_audit.specs.Lines.{TakesLine}
 use Rattle.desk_audit.specs.Rules.{HasBegun, HasFollowedFirst, HasFollowedSecond, HasTurned}
+use Rattle.sqlite.specs.Schema.{Schema}
+use Rattle.desk_bytes.specs.declared.refusal.Refusal.TheVariants as refusals
+use Rattle.store_schema.specs.Names.{takes_a_desk_name}
+use Rattle.store_schema.specs.Tables.{no_schema}
+use Rattle.desk_audit.specs.declared.auditing.AuditFault.{AuditFault}
+use Rattle.desk_audit.specs.declared.auditing.AuditFault.TheVariants.{Device}
 use Rattle.desk_audit.specs.declared.auditing.FirstEnd.{FirstEnd}
 use Rattle.desk_audit.specs.declared.auditing.FirstEnd.TheVariants.{All, Before}
 use Rattle.desk_audit.proofs.FollowingLemmas.{none_told, small_number, told_reply}
@@ -198,3 +204,16 @@ none_wrong None n cs w h same = absurd (cc)
 none_wrong (Some given) n cs w h same =
     let is : given ≡ minutes_text cs = cc in
     w.none cs h (w.after, sym is ∙ w.parts, w.ends)
+
+-- ---- why an audit stops
+
+-- no name is taken in an empty store
+pub none_taken : (schema : Schema) → schema ≡ no_schema → IsTrue (takes_a_desk_name schema) → ⊥
+none_taken schema empty taken = true≢false (sym (subst (λ s. IsTrue (takes_a_desk_name s)) empty taken))
+
+-- an Ok is no failed read
+pub no_device : {A : Type 0} (a : A) → ◌≢◌ {A = Result A AuditFault} (Ok a) (Err (Device refusals.Read))
+no_device a e = cc
+
+pub same_fault : {A : Type 0} (a b : AuditFault) → ◌≡◌ {A = Result A AuditFault} (Err a) (Err b) → a ≡ b
+same_fault a b e = cc

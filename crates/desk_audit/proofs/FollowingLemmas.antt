@@ -1,17 +1,14 @@
 -- Calls that are accepted and are no repeats, and the lines of their minutes.
-use Rattle.std.proofs.Common.{◌≡◌, ◌≢◌, inr, ℕ, ◌+◌, ◌<◌, ◌≤◌, ◌^◌, ◌∙◌, Bool, true, false, not, ◌&&◌, ◌||◌, List, [], ◌∷◌, ◌++◌, length, Option, Some, None, Result, Ok, Err, find, bytes_eq, refl, sym, ap, arith}
-use Rattle.std.specs.Prelude.{codes, decimal, if◌then◌else◌, nat_le, IfNone, IfSome}
-use Rattle.std.specs.List.{list_all, list_any}
+use Rattle.std.proofs.Common.{◌≡◌, ◌≢◌, inl, inr, ℕ, ◌+◌, ◌<◌, ◌≤◌, ◌^◌, ◌∙◌, Bool, true, false, not, ◌&&◌, List, [], ◌∷◌, length, Option, Some, None, bytes_eq, refl, sym, ap, arith}
+use Rattle.std.specs.Prelude.{if◌then◌else◌, nat_le, IfNone, IfSome}
+use Rattle.std.specs.List.{list_all}
 use Rattle.std.proofs.lemmas.Bool.{and_parts}
 use Rattle.std.proofs.lemmas.Bool.Decides.{nat_tests}
 use Rattle.std.proofs.lemmas.List.Elements.{All-cons}
-use Rattle.std.proofs.lemmas.Option.{same_Some}
 use Rattle.desk_bytes.specs.declared.refusal.Refusal.{Refusal}
 use Rattle.desk_bytes.specs.declared.refusal.Refusal.TheVariants as refusals
-use Rattle.desk_texts.specs.Callers.{caller_name}
 use Rattle.desk_texts.specs.CommandTexts.{text_of}
 use Rattle.desk_texts.specs.Formed.{IsCall}
-use Rattle.desk_texts.specs.ReplyTexts.{reply_text_of}
 use Rattle.desk_texts.specs.declared.command.Call.{Call}
 use Rattle.desk_texts.specs.declared.reply.Reply.{Reply}
 use Rattle.desk_texts.proofs.FormLemmas.{both, joined}
@@ -20,15 +17,11 @@ use Rattle.desk_history.specs.Formed.{IsHistory, IsItem}
 use Rattle.desk_history.specs.Limits.{most_calls}
 use Rattle.desk_history.specs.Refusals.{is_known, refusal_of}
 use Rattle.desk_history.specs.Replies.{minute_of, reply_to}
-use Rattle.desk_history.specs.Runs.{answer, answer_known, earlier, has_key, is_accepted, is_legal, joins, may_follow, next, reply_in, ruling}
-use Rattle.desk_history.specs.Tables.{tables}
+use Rattle.desk_history.specs.Runs.{answer, answer_known, earlier, is_accepted, is_legal, joins, may_follow, next, ruling}
 use Rattle.desk_history.specs.declared.answer.Answer.{Answer}
 use Rattle.desk_history.specs.declared.answer.Answer.TheVariants.{Accepted, Refused, Repeated}
 use Rattle.desk_history.specs.declared.rows.Minute.{Minute}
-use Rattle.desk_history.proofs.ListLemmas.{bytes_eq-refl, same_text}
-use Rattle.desk_history.proofs.RunLemmas.{accepted_parts, newest}
-use Rattle.desk_rules.specs.Shown.{Shows}
-use Rattle.desk_rules.specs.declared.view.View.{View}
+use Rattle.desk_history.proofs.RunLemmas.{newest}
 use Rattle.desk_exports.specs.Exports.{minute_line}
 use Rattle.desk_minutes.specs.Follows.{HasNoNext}
 use Rattle.desk_minutes.specs.Lines.{IsTold, line_with}
@@ -38,47 +31,13 @@ use Rattle.desk_minutes.proofs.LineLemmas.{line_same}
 use Rattle.desk_minutes.proofs.MinutedLemmas.{first_of_first, first_shows_none}
 use Rattle.desk_minutes.proofs.SameLemmas.{itself}
 use Rattle.desk_minutes.proofs.TextLemmas.{told_newest}
+use Rattle.store_reads.specs.Failures.{IsFailure}
+use Rattle.desk_audit.specs.Faults.{IsDeskFailure}
 use Rattle.desk_audit.specs.Following.{HasNoneBy, TellsSecond}
 
--- ---- repeats
+-- ---- calls that are accepted
 
-none_found : {X : Type 0} (p : X → Bool) (xs : List X) → list_any p xs ≡ false → find p xs ≡ None
-none_found p [] h = refl
-none_found p (x ∷ xs) h =
-    elim (p x) as (λ b. (b || list_any p xs) ≡ false → (if b then Some x else find p xs) ≡ None) [ true ↦ λ e. absurd (cc) | false ↦ λ e. none_found p xs e ] h
-
-some_found : {X : Type 0} (p : X → Bool) (xs : List X) → list_any p xs ≡ true → find p xs ≡ None → ⊥
-some_found p [] h none = absurd (cc)
-some_found p (x ∷ xs) h none =
-    elim (p x) as (λ b. (b || list_any p xs) ≡ true → (if b then Some x else find p xs) ≡ None → ⊥) [ true ↦ λ e f. absurd (cc) | false ↦ λ e f. some_found p xs e f ] h none
-
-not_true : (b : Bool) → (b ≡ true → ⊥) → b ≡ false
-not_true true h = absurd (h refl)
-not_true false h = refl
-
--- a repeat isn't accepted
-pub repeat_refused : (v : View) (owner : List ℕ) (cs : History) (c : Call) → Shows v (tables owner cs) c
-    → list_any (has_key (caller_name c.caller) c.key) v.calls.items ≡ true → is_accepted (answer cs c) ≡ false
-repeat_refused v owner cs c shows h =
-    not_true (is_accepted (answer cs c))
-    (λ e. some_found (has_key (caller_name c.caller) c.key) v.calls.items h (shows.call ∙ (accepted_parts cs (item c) e).fresh))
-
-answered : (known : Bool) (m : Option Minute) (text : List ℕ) (refusal : Option Refusal) (given r : Reply) → m ≡ None
-    → reply_in (if not known then Refused refusals.UnknownCaller else answer_known m text refusal given) ≡ Some r
-    → ((if not known then Refused refusals.UnknownCaller else answer_known m text refusal given) ≡ Accepted r)
-answered false m text refusal given r new h = absurd (cc)
-answered true (Some m) text refusal given r new h = absurd (cc)
-answered true None text (Some refusal) given r new h = absurd (cc)
-answered true None text None given r new h = ap Accepted (same_Some given r h)
-
--- a call with a new key that gets a reply is accepted with it
-pub new_accepted : (v : View) (owner : List ℕ) (cs : History) (c : Call) (r : Reply) → Shows v (tables owner cs) c
-    → list_any (has_key (caller_name c.caller) c.key) v.calls.items ≡ false → reply_in (answer cs c) ≡ Some r → answer cs c ≡ Accepted r
-new_accepted v owner cs c r shows h e =
-    answered (is_known cs c.caller) (earlier cs c) (text_of c.command) (refusal_of cs (item c)) (reply_to cs (item c)) r
-    (sym shows.call ∙ none_found (has_key (caller_name c.caller) c.key) v.calls.items h) e
-
--- and joins the history
+-- such a call joins the history
 pub accepted_next : (cs : History) (c : Call) (r : Reply) → answer cs c ≡ Accepted r → next cs c ≡ item c ∷ cs
 accepted_next cs c r h = ap (λ a. if is_accepted a then item c ∷ cs else cs) h
 
@@ -181,35 +140,24 @@ none_second cs line h shows none i formed may same = by i.call i.rules formed ma
 
 -- ---- calls that aren't accepted, and replies that differ
 
--- the rules accept no call, or give another reply
-pub by_reply : {X N : Type 0} (P Q : Reply → Type 0) (o : Option Reply) → IfNone o N → IfSome o P → IfSome o Q → (N → X) → ((r : Reply) → P r → Q r → X) → X
-by_reply P Q None none some differs f k = f none
-by_reply P Q (Some r) none some differs f k = k r some differs
+-- the rules accept no call, or give another reply than the line tells
+pub by_reply : {X N : Type 0} (P : Reply → Type 0) (o : Option Reply) (told : Reply) → IfNone o N → IfSome o P → o ≢ Some told → (N → X) → ((r : Reply) → P r → r ≢ told → X) → X
+by_reply P None told none some differs f k = f none
+by_reply P (Some r) told none some differs f k = k r some (λ e. differs (ap Some e))
 
 pub not_accepted : (a : Answer) (m : Bool) → is_accepted a ≡ false → (is_accepted a && m) ≡ true → ⊥
 not_accepted a m h e = let yes_it_is = (both (is_accepted a) m e).0 in absurd (cc)
 
--- replies of other texts are others
-pub other_reply : (cs : History) (i : Item) (r s : Reply) → ruling cs i ≡ Accepted r → bytes_eq (reply_text_of r) (reply_text_of s) ≡ false → reply_to cs i ≡ s → ⊥
-other_reply cs i r s h differ e =
-    let same : s ≡ r = sym e ∙ accepted_reply cs i r h in
-    let equal : bytes_eq (reply_text_of r) (reply_text_of s) ≡ true = ap (λ t. bytes_eq (reply_text_of r) (reply_text_of t)) same ∙ bytes_eq-refl (reply_text_of r) in
-    absurd (cc)
-
--- the line that was read is that of the call, if the reply has the same text
-pub read_is : (cs : History) (line : List ℕ) (n : ℕ) (i : Item) (r s : Reply) → n ≡ length cs + 1 → line ≡ line_with n i.call s → ruling cs i ≡ Accepted r
-    → bytes_eq (reply_text_of r) (reply_text_of s) ≡ true → line ≡ minute_line (minute_of cs i)
-read_is cs line n i r s is spelt accepted same =
-    let text : reply_text_of s ≡ reply_text_of (reply_to cs i) = sym (same_text (reply_text_of r) (reply_text_of s) same) ∙ ap reply_text_of (sym (accepted_reply cs i r accepted)) in
-    spelt ∙ told_apart n i.call text ∙ sym (line_numbered cs n i is)
-  where
-    told_apart : (n : ℕ) (c : Call) → reply_text_of s ≡ reply_text_of (reply_to cs i) → line_with n c s ≡ line_with n c (reply_to cs i)
-    told_apart n c e =
-        ap (λ t. decimal n ++ codes "\t" ++ caller_name c.caller ++ codes "\t" ++ c.key ++ codes "\t" ++ text_of c.command ++ codes "\t" ++ t ++ codes "\n") e
+-- the line that was read is that of the call, if the rules give the reply that it tells
+pub read_is : (cs : History) (line : List ℕ) (n : ℕ) (i : Item) (r : Reply) → n ≡ length cs + 1 → line ≡ line_with n i.call r → ruling cs i ≡ Accepted r
+    → line ≡ minute_line (minute_of cs i)
+read_is cs line n i r is spelt accepted = spelt ∙ ap (line_with n i.call) (sym (accepted_reply cs i r accepted)) ∙ sym (line_numbered cs n i is)
 
 pub may_join : (cs : History) (i : Item) (r : Reply) → ruling cs i ≡ Accepted r → may_follow cs i ≡ true → joins cs i ≡ true
 may_join cs i r h e = joined (is_accepted (ruling cs i)) (may_follow cs i) (ap is_accepted h) e
 
--- an Ok is no failure
-pub no_failure : {A : Type 0} (a : A) → ◌≢◌ {A = Result A Refusal} (Ok a) (Err refusals.Store)
-no_failure a e = cc
+-- ---- a device's failure
+
+pub desk_failed : (closed : Bool) (r : Refusal) → (closed ≡ false → IsFailure r) → (closed ≡ true → r ≡ refusals.Reopen) → IsDeskFailure r
+desk_failed true r usable reopen = inl (reopen refl)
+desk_failed false r usable reopen = inr (usable refl)

@@ -1,2 +1,3 @@
-pub mod AuditLemmas
+mod LineLemmas
 pub mod FollowingLemmas
+pub mod AuditLemmas

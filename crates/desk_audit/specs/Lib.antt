@@ -1,4 +1,6 @@
 pub mod Audits
+pub mod Faults
 pub mod Following
 pub mod Lines
 pub mod Rules
+pub mod Watches

@@ -1,14 +1,16 @@
 //! Minutes, followed from the first line to the last.
-ghost use Rattle.std.specs.Prelude.{◌≡◌, ℕ, List, [], IfErr, IfOk, IfSome, Option, Some};
+ghost use Rattle.std.specs.Prelude.{◌≡◌, ◌≢◌, ℕ, List, [], Err, IfErr, IfOk, IfSome, Option, Some};
 ghost use Rattle.sqlite.specs.Held.{state};
 ghost use Rattle.sqlite.specs.State.{HasCleanDisk};
 ghost use Rattle.desk_first.specs.Desks.{ShowsFirstDesk};
 ghost use Rattle.desk_audit.specs.Audits.{HasFollowed, IsWrongAt};
+ghost use Rattle.desk_audit.specs.Faults.{IsCaused, IsFollowFault};
+ghost use Rattle.desk_audit.specs.declared.lines.LineWatch.{LineWatch};
 ghost use Rattle.desk_audit.specs.Rules.{HasBegun, HasFollowedSecond, HasTurned};
 
 use crate::beginning::{Step, follow_first};
 use crate::following::{FollowFault, follow};
-use crate::lines::next_line;
+use crate::lines::LineWatch;
 use desk_bytes::Refusal;
 use desk_first::FirstDesk;
 use desk_store::Desk;
@@ -39,7 +41,9 @@ pub(crate) enum FirstEnd {
 
 /// The fault of the line of this number.
 fn at_line(number: u64, fault: FollowFault) -> AuditFault
-    ensures { (n : ℕ) → result ≡ AuditFault.Line n → (fault ≡ FollowFault.Line) × (n ≡ number) }
+    ensures line { (n : ℕ) → result ≡ AuditFault.Line n
+        → (fault ≡ FollowFault.Line) × (n ≡ number) }
+    ensures named { IsFollowFault fault → (watch : LineWatch) → IsCaused watch result }
 {
     match fault {
         FollowFault::Line => AuditFault::Line(number),
@@ -52,11 +56,13 @@ fn at_line(number: u64, fault: FollowFault) -> AuditFault
 /// line, and the store's.
 ///
 /// `Line`: the first line that isn't what the rules give; a last line without a line break is such
-/// a line. `Device`: memory was refused, or the store or the reader failed.
+/// a line. `Device`: memory was refused (`NoMemory`), the reader failed (`Read`), or the store
+/// failed or had more calls than a desk has (`Store`), or had failed before (`Reopen`).
 pub(crate) fn follow_beginning<S: Alter + Drop, R: BufRead>(
     alloc: Global,
     desk: &mut FirstDesk<S>,
     reader: &mut R,
+    watch: &mut LineWatch,
     line: &mut Vec<u8>,
 ) -> Result<FirstEnd, AuditFault>
     ensures ok { HasCleanDisk (state S.Store desk.new.conn) → IfOk result (λ end.
@@ -68,10 +74,12 @@ pub(crate) fn follow_beginning<S: Alter + Drop, R: BufRead>(
         → IfSome (R.remaining reader.old) (λ given. IsWrongAt given n)) }
     ensures clean { HasCleanDisk (state S.Store desk.new.conn)
         → HasCleanDisk (state S.Store desk.old.conn) }
+    ensures named { IfErr result (IsCaused watch.new) }
+    ensures steady { result ≢ Err (AuditFault.Device Refusal.Read) → watch.new ≡ watch.old }
 {
     let mut calls = 0;
     while calls < u64::MAX {
-        match next_line(reader, line) {
+        match watch.next_line(reader, line) {
             Ok(true) => {}
             Ok(false) => return Ok(FirstEnd::All(calls)),
             Err(refusal) => return Err(AuditFault::Device(refusal)),
@@ -83,19 +91,21 @@ pub(crate) fn follow_beginning<S: Alter + Drop, R: BufRead>(
         }
         calls += 1;
     }
-    Err(AuditFault::Device(Refusal::Full))
+    Err(AuditFault::Device(Refusal::Store))
 }
 
 /// Follows the lines of minutes that are left after so many, one of which only the second rules
 /// give: the count of all. Takes memory for one line, and the store's.
 ///
 /// `Line`: the first line that isn't what the rules give; a last line without a line break is such
-/// a line. `Device`: memory was refused, or the store or the reader failed.
+/// a line. `Device`: memory was refused (`NoMemory`), the reader failed (`Read`), or the store
+/// failed or had more calls than a desk has (`Store`), or had failed before (`Reopen`).
 fn follow_rest<S: Alter + Drop, R: BufRead>(
     alloc: Global,
     desk: &mut Desk<S>,
     before: u64,
     reader: &mut R,
+    watch: &mut LineWatch,
     line: &mut Vec<u8>,
 ) -> Result<u64, AuditFault>
     ensures ok { HasCleanDisk (state S.Store desk.new.conn) → IfOk result (λ calls.
@@ -109,10 +119,12 @@ fn follow_rest<S: Alter + Drop, R: BufRead>(
         → IfSome first (λ given. IsWrongAt given n)) }
     ensures clean { HasCleanDisk (state S.Store desk.new.conn)
         → HasCleanDisk (state S.Store desk.old.conn) }
+    ensures named { IfErr result (IsCaused watch.new) }
+    ensures steady { result ≢ Err (AuditFault.Device Refusal.Read) → watch.new ≡ watch.old }
 {
     let mut calls = before;
     while calls < u64::MAX {
-        match next_line(reader, line) {
+        match watch.next_line(reader, line) {
             Ok(true) => {}
             Ok(false) => return Ok(calls),
             Err(refusal) => return Err(AuditFault::Device(refusal)),
@@ -123,7 +135,7 @@ fn follow_rest<S: Alter + Drop, R: BufRead>(
         }
         calls += 1;
     }
-    Err(AuditFault::Device(Refusal::Full))
+    Err(AuditFault::Device(Refusal::Store))
 }
 
 /// Follows the lines of minutes that are left after those by the first rules, of which the one in
@@ -131,12 +143,14 @@ fn follow_rest<S: Alter + Drop, R: BufRead>(
 /// store's.
 ///
 /// `Line`: the first line that isn't what the rules give; a last line without a line break is such
-/// a line. `Device`: memory was refused, or the store or the reader failed.
+/// a line. `Device`: memory was refused (`NoMemory`), the reader failed (`Read`), or the store
+/// failed or had more calls than a desk has (`Store`), or had failed before (`Reopen`).
 pub(crate) fn follow_on<S: Alter + Drop, R: BufRead>(
     alloc: Global,
     desk: &mut Desk<S>,
     end: FirstEnd,
     reader: &mut R,
+    watch: &mut LineWatch,
     line: &mut Vec<u8>,
 ) -> Result<u64, AuditFault>
     ensures ok { HasCleanDisk (state S.Store desk.new.conn) → IfOk result (λ calls.
@@ -148,6 +162,8 @@ pub(crate) fn follow_on<S: Alter + Drop, R: BufRead>(
         → fault ≡ AuditFault.Line n → (owner : List ℕ) (first : Option (List ℕ))
         → HasTurned S.Store desk.old owner end first (R.remaining reader.old) line.old.items
         → IfSome first (λ given. IsWrongAt given n)) }
+    ensures named { IfErr result (IsCaused watch.new) }
+    ensures steady { result ≢ Err (AuditFault.Device Refusal.Read) → watch.new ≡ watch.old }
 {
     let number = match end {
         FirstEnd::All(calls) => return Ok(calls),
@@ -157,7 +173,7 @@ pub(crate) fn follow_on<S: Alter + Drop, R: BufRead>(
         Ok(()) => {}
         Err(fault) => return Err(at_line(number, fault)),
     }
-    match follow_rest(alloc, desk, number, reader, line) {
+    match follow_rest(alloc, desk, number, reader, watch, line) {
         Ok(calls) => Ok(calls),
         Err(fault) => Err(fault),
     }

@@ -1,11 +1,12 @@
 //! One line of minutes, followed by the first rules.
-ghost use Rattle.std.specs.Prelude.{◌≡◌, IfOk, IsErrOf};
+ghost use Rattle.std.specs.Prelude.{◌≡◌, IfErr, IfOk, IsErrOf};
 ghost use Rattle.sqlite.specs.Held.{state};
 ghost use Rattle.sqlite.specs.State.{HasCleanDisk};
 ghost use Rattle.desk_minutes.specs.Minuted.{is_of_second};
+ghost use Rattle.desk_audit.specs.Faults.{IsFollowFault};
 ghost use Rattle.desk_audit.specs.Following.{EndsBeforeBoth, GoesOnByFirst, TellsSecond};
 
-use crate::following::{FollowFault, compare, read_line};
+use crate::following::{FollowFault, is_due, read_line};
 use desk_first::FirstDesk;
 use desk_texts::Reply;
 use sqlite::Alter;
@@ -51,6 +52,7 @@ pub(crate) fn follow_first<S: Alter + Drop>(
         → IsErrOf result FollowFault.Line → EndsBeforeBoth S.Store desk.old number line.now }
     ensures clean { HasCleanDisk (state S.Store desk.new.conn)
         → HasCleanDisk (state S.Store desk.old.conn) }
+    ensures named { IfErr result IsFollowFault }
 {
     let read = match read_line(alloc, number, line) {
         Ok(read) => read,
@@ -63,8 +65,9 @@ pub(crate) fn follow_first<S: Alter + Drop>(
         Ok(given) => given,
         Err(refusal) => return Err(FollowFault::Device(refusal)),
     };
-    match compare(alloc, given, &read.reply) {
-        Ok(()) => Ok(Step::Joined),
-        Err(fault) => Err(fault),
+    if is_due(given, &read.reply) {
+        Ok(Step::Joined)
+    } else {
+        Err(FollowFault::Line)
     }
 }

@@ -1,20 +1,20 @@
 //! One line of minutes, followed by the second rules.
-ghost use Rattle.std.specs.Prelude.{◌≡◌, ◌≢◌, IfOk, IfSome, IsErrOf, OnOk, Some, bytes_eq, false, true};
+ghost use Rattle.std.specs.Prelude.{◌≡◌, ◌≢◌, IfErr, IfOk, IsErrOf, OnOk, Some, false, true};
 ghost use Rattle.sqlite.specs.Held.{state};
 ghost use Rattle.sqlite.specs.State.{HasCleanDisk};
-ghost use Rattle.desk_texts.specs.ReplyTexts.{reply_text_of};
 ghost use Rattle.desk_texts.specs.declared.command.Call.{Call};
 ghost use Rattle.desk_texts.specs.declared.reply.Reply.{Reply};
 ghost use Rattle.desk_minutes.specs.Lines.{IsTold, line_with};
+ghost use Rattle.desk_audit.specs.Faults.{IsFollowFault};
 ghost use Rattle.desk_audit.specs.Following.{EndsBefore, GoesOnWith};
 
 use crate::applying::reply_to_new;
 use desk_bytes::Refusal;
 use desk_minutes::{MinuteRead, read_minute};
 use desk_store::Desk;
-use desk_texts::{Reply, TextFault, reply_text};
+use desk_texts::{Reply, TextFault};
 use sqlite::Alter;
-use std::alloc::{AllocError, Global};
+use std::alloc::Global;
 
 /// Why a line isn't followed.
 #[derive(Clone, Copy, Debug, PartialEq, Eq)]
@@ -34,6 +34,7 @@ pub(crate) fn read_line(alloc: Global, number: u64, line: &[u8]) -> Result<Minut
         × (line.now ≡ line_with number read.call read.reply)) }
     ensures only { IsErrOf result FollowFault.Line → (c : Call) (given : Reply) → IsTold c given
         → line.now ≢ line_with number c given }
+    ensures named { IfErr result IsFollowFault }
 {
     match read_minute(alloc, number, line) {
         Ok(read) => Ok(read),
@@ -42,33 +43,38 @@ pub(crate) fn read_line(alloc: Global, number: u64, line: &[u8]) -> Result<Minut
     }
 }
 
-/// Whether the replies have the same text. Takes memory for both texts.
-fn is_same(alloc: Global, one: &Reply, other: &Reply) -> Result<bool, AllocError>
-    ensures { IfOk result (λ same.
-        same ≡ bytes_eq (reply_text_of one.now) (reply_text_of other.now)) }
+/// Whether the replies are the same.
+fn is_same(one: &Reply, other: &Reply) -> bool
+    ensures same { result ≡ true → one.now ≡ other.now }
+    ensures differ { result ≡ false → one.now ≢ other.now }
 {
-    let first = reply_text(alloc, one)?;
-    let second = reply_text(alloc, other)?;
-    Ok(first.as_str() == second.as_str())
+    match one {
+        Reply::Added(name) => {
+            matches!(other, Reply::Added(told) if name.as_str() == told.as_str())
+        }
+        Reply::Submitted(number) => matches!(other, Reply::Submitted(told) if number == told),
+        Reply::Reviewed(outcome) => matches!(other, Reply::Reviewed(told) if outcome == told),
+        Reply::Withdrawn(number) => matches!(other, Reply::Withdrawn(told) if number == told),
+        Reply::Returned(number) => matches!(other, Reply::Returned(told) if number == told),
+        Reply::Listed => matches!(other, Reply::Listed),
+        Reply::Unlisted => matches!(other, Reply::Unlisted),
+        Reply::Revoked => matches!(other, Reply::Revoked),
+        Reply::Raised => matches!(other, Reply::Raised),
+        Reply::Imported(counts) => matches!(other, Reply::Imported(told) if counts == told),
+        Reply::Proposed(number) => matches!(other, Reply::Proposed(told) if number == told),
+        Reply::Confirmed(made) => matches!(other, Reply::Confirmed(told) if made == told),
+        Reply::Dropped(number) => matches!(other, Reply::Dropped(told) if number == told),
+    }
 }
 
-/// Compares the reply of a line with the one that the rules give, if they accept its call. Takes
-/// memory for both texts.
-///
-/// `Line`: the rules don't accept the call, or the replies differ.
-pub(crate) fn compare(alloc: Global, given: Option<Reply>, told: &Reply) -> Result<(), FollowFault>
-    ensures ok { OnOk result ((reply : Reply) × (given ≡ Some reply)
-        × (bytes_eq (reply_text_of reply) (reply_text_of told.now) ≡ true)) }
-    ensures wrong { IsErrOf result FollowFault.Line → IfSome given (λ reply.
-        bytes_eq (reply_text_of reply) (reply_text_of told.now) ≡ false) }
+/// Whether the rules accept a line's call, with the reply that the line tells.
+pub(crate) fn is_due(given: Option<Reply>, told: &Reply) -> bool
+    ensures same { result ≡ true → given ≡ Some told.now }
+    ensures differ { result ≡ false → given ≢ Some told.now }
 {
-    let Some(reply) = given else {
-        return Err(FollowFault::Line);
-    };
-    match is_same(alloc, &reply, told) {
-        Ok(true) => Ok(()),
-        Ok(false) => Err(FollowFault::Line),
-        Err(_) => Err(FollowFault::Device(Refusal::NoMemory)),
+    match given {
+        Some(reply) => is_same(&reply, told),
+        None => false,
     }
 }
 
@@ -90,6 +96,7 @@ pub(crate) fn follow<S: Alter + Drop>(
         → IsErrOf result FollowFault.Line → EndsBefore S.Store desk.old number line.now }
     ensures clean { HasCleanDisk (state S.Store desk.new.conn)
         → HasCleanDisk (state S.Store desk.old.conn) }
+    ensures named { IfErr result IsFollowFault }
 {
     let read = match read_line(alloc, number, line) {
         Ok(read) => read,
@@ -99,8 +106,9 @@ pub(crate) fn follow<S: Alter + Drop>(
         Ok(given) => given,
         Err(refusal) => return Err(FollowFault::Device(refusal)),
     };
-    match compare(alloc, given, &read.reply) {
-        Ok(()) => Ok(()),
-        Err(fault) => Err(fault),
+    if is_due(given, &read.reply) {
+        Ok(())
+    } else {
+        Err(FollowFault::Line)
     }
 }

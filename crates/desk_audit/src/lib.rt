@@ -9,4 +9,5 @@ mod lines;
 mod memory;
 
 pub use auditing::AuditFault;
-pub use memory::{Audited, audit};
+pub use lines::LineWatch;
+pub use memory::{Audited, audit, in_memory};

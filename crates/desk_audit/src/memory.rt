@@ -1,13 +1,17 @@
 //! The audit of minutes over a store in memory.
-ghost use Rattle.std.specs.Prelude.{◌≡◌, ◌≢◌, ℕ, [], IfErr, IfOk, IfSome, Some};
+ghost use Rattle.std.specs.Prelude.{◌≡◌, ◌≢◌, ℕ, [], Err, IfErr, IfOk, IfSome, Some};
+ghost use Rattle.store_reads.specs.Failures.{IsFailure};
 ghost use Rattle.desk_history.specs.Calls.{History};
 ghost use Rattle.desk_history.specs.Formed.{IsHistory};
 ghost use Rattle.desk_exports.specs.Exports.{minutes_text};
 ghost use Rattle.desk_first.specs.Desks.{ShowsFirstDesk};
 ghost use Rattle.desk_audit.specs.Audits.{HasFollowed, IsWrongAt};
+ghost use Rattle.desk_audit.specs.Faults.{IsCaused, IsCausedInMemory, IsDeskFailure};
+ghost use Rattle.desk_audit.specs.declared.lines.LineWatch.{LineWatch};
 ghost use Rattle.memory_disk.specs.Disks.{over_memory};
 
 use crate::auditing::{AuditFault, follow_beginning, follow_on};
+use crate::lines::LineWatch;
 use desk_bytes::{Guid, Refusal};
 use desk_first::FirstDesk;
 use desk_store::Desk;
@@ -29,7 +33,8 @@ pub struct Audited {
 ///
 /// `NoMemory`, `Store`: memory was refused.
 fn begun(alloc: Global, owner: &Guid) -> Result<FirstDesk<MemoryStore>, Refusal>
-    ensures { IfOk result (λ desk. ShowsFirstDesk over_memory desk owner.now []) }
+    ensures shown { IfOk result (λ desk. ShowsFirstDesk over_memory desk owner.now []) }
+    ensures named { IfErr result IsFailure }
 {
     let Ok(conn) = connect(alloc) else {
         return Err(Refusal::NoMemory);
@@ -41,17 +46,24 @@ fn begun(alloc: Global, owner: &Guid) -> Result<FirstDesk<MemoryStore>, Refusal>
     Ok(FirstDesk::of(alloc, desk))
 }
 
-/// The refusal of a desk in memory: its store fails only where memory is refused.
-fn in_memory(refusal: Refusal) -> Refusal {
+/// The refusal of a desk in memory: its store fails, or has failed before, only where memory was
+/// refused.
+pub fn in_memory(refusal: Refusal) -> Refusal
+    ensures failed { IsDeskFailure refusal → result ≡ Refusal.NoMemory }
+    ensures other { (IsDeskFailure refusal → ⊥) → result ≡ refusal }
+{
     match refusal {
-        Refusal::Store => Refusal::NoMemory,
+        Refusal::Store | Refusal::Reopen => Refusal::NoMemory,
         other => other,
     }
 }
 
 /// The fault of an audit on a desk in memory.
 fn fault_in_memory(fault: AuditFault) -> AuditFault
-    ensures { (n : ℕ) → result ≡ AuditFault.Line n → fault ≡ AuditFault.Line n }
+    ensures line { (n : ℕ) → result ≡ AuditFault.Line n → fault ≡ AuditFault.Line n }
+    ensures read { fault ≡ AuditFault.Device Refusal.Read
+        → result ≡ AuditFault.Device Refusal.Read }
+    ensures named { (watch : LineWatch) → IsCaused watch fault → IsCausedInMemory watch result }
 {
     match fault {
         AuditFault::Line(number) => AuditFault::Line(number),
@@ -62,24 +74,32 @@ fn fault_in_memory(fault: AuditFault) -> AuditFault
 /// Follows minutes by the rules on a new desk in memory, with this owner of each exported entry:
 /// they are those of a history that a desk may have, and the desk shows it. Each line is followed
 /// by the first rules until one with a reply that only the second give, and by the second from that
-/// line on. Takes memory for the desk and for one line.
+/// line on. An interrupted read is a fault and isn't retried. Takes memory for the desk and for one
+/// line.
 ///
 /// `Line`: the first line that isn't what the rules give; a last line without a line break is such
-/// a line. `Device`: memory was refused, or the reader failed.
-pub fn audit<R: BufRead>(alloc: Global, owner: &Guid, reader: &mut R) -> Result<Audited, AuditFault>
+/// a line. `Device`: memory was refused (`NoMemory`), or a read failed (`Read`).
+pub fn audit<R: BufRead>(
+    alloc: Global,
+    owner: &Guid,
+    reader: &mut R,
+    watch: &mut LineWatch,
+) -> Result<Audited, AuditFault>
     ensures ok { IfOk result (λ audited. IfSome (R.remaining reader.old) (λ given.
         HasFollowed over_memory audited.desk owner.now audited.calls (Some given) (Some []))) }
     ensures wrong { IfErr result (λ fault. (n : ℕ) → fault ≡ AuditFault.Line n
         → IfSome (R.remaining reader.old) (λ given. IsWrongAt given n)) }
     ensures passes { IfErr result (λ fault. (n : ℕ) → fault ≡ AuditFault.Line n
         → (cs : History) → IsHistory cs → R.remaining reader.old ≢ Some (minutes_text cs)) }
+    ensures named { IfErr result (IsCausedInMemory watch.new) }
+    ensures steady { result ≢ Err (AuditFault.Device Refusal.Read) → watch.new ≡ watch.old }
 {
     let mut first = match begun(alloc, owner) {
         Ok(first) => first,
         Err(refusal) => return Err(AuditFault::Device(in_memory(refusal))),
     };
     let mut line = Vec::new(alloc);
-    let end = match follow_beginning(alloc, &mut first, reader, &mut line) {
+    let end = match follow_beginning(alloc, &mut first, reader, watch, &mut line) {
         Ok(end) => end,
         Err(fault) => return Err(fault_in_memory(fault)),
     };
@@ -87,7 +107,7 @@ pub fn audit<R: BufRead>(alloc: Global, owner: &Guid, reader: &mut R) -> Result<
         Ok(desk) => desk,
         Err(refusal) => return Err(AuditFault::Device(in_memory(refusal))),
     };
-    match follow_on(alloc, &mut desk, end, reader, &mut line) {
+    match follow_on(alloc, &mut desk, end, reader, watch, &mut line) {
         Ok(calls) => Ok(Audited { desk, calls }),
         Err(fault) => Err(fault_in_memory(fault)),
     }

@@ -27,9 +27,11 @@ use Rattle.store_sql.specs.States.{Changes, Sees}
 use Rattle.store_sql.proofs.CommitLemmas.{Worked}
 use Rattle.store_sql.proofs.StopLemmas.{shows_all}
 use Rattle.desk_first.specs.declared.acting.Followed.{Followed}
-use Rattle.desk_first.specs.declared.figures.Figures.{Figures}
 use Rattle.desk_first.specs.Acts.{Accepts, AcceptsWith, ActsFirst, FirstPast, FollowsInside, FollowsOutside, IsNotAccepted, after, before}
-use Rattle.desk_first.specs.Figures.{AreOf, TurnInto}
+use Rattle.store_views.specs.declared.remembered.Remembered.{Remembered}
+use Rattle.store_views.specs.remembered.Current.{IsCurrent, StaysCurrent}
+use Rattle.store_views.specs.sizes.Sizes.{AreAllKnown, AreRight, KnowsNoLess}
+use Rattle.store_views.proofs.SizeLemmas.{all_known}
 use Rattle.desk_first.specs.Steps.{with_first_calls}
 use Rattle.desk_first.proofs.DecidingLemmas.{joined}
 
@@ -47,22 +49,29 @@ counted_tables owner cs n first is =
 
 -- ---- inside the transaction
 
-module _ (f : Figures) (c : Call) (v : View) (first read last : State) (decided : Decided) (later : Figures) (seen : Changes desk_layout contents first read (λ t. t))
-    (shown : (p : FirstPast f) → Sees desk_layout first (before f p) → ShowsToFirst v (tables p.owner p.calls) c) (accepts : Accepts v c decided)
-    (turns : TurnInto f c.command decided.writes.items later) (wrote : Changes desk_layout contents read last (λ t. with_first_calls later.sizes.calls (all_written decided.writes.items t))) where
-  told : (p : FirstPast f) → Sees desk_layout first (before f p) → AcceptsWith decided p.owner p.calls c
+module _ (r : Remembered) (c : Call) (v : View) (first read last : State) (decided : Decided) (later : Remembered) (calls : ℕ) (seen : Changes desk_layout contents first read (λ t. t))
+    (shown : (p : FirstPast r) → Sees desk_layout first (before r p) → ShowsToFirst v (tables p.owner p.calls) c) (accepts : Accepts v c decided)
+    (stays : StaysCurrent r c.command decided.writes.items later) (tells : (t : Tables) → AreRight later.sizes t → AreAllKnown later.sizes → calls ≡ length t.calls)
+    (wrote : Changes desk_layout contents read last (λ t. with_first_calls calls (all_written decided.writes.items t))) where
+  told : (p : FirstPast r) → Sees desk_layout first (before r p) → AcceptsWith decided p.owner p.calls c
   told p sees = accepts p.owner p.calls p.history.legal p.first (shown p sees)
 
-  right : (p : FirstPast f) → Sees desk_layout first (before f p) → AreOf later (tables p.owner (under First c ∷ p.calls))
+  right : (p : FirstPast r) → Sees desk_layout first (before r p) → IsCurrent later (tables p.owner (under First c ∷ p.calls)) × KnowsNoLess r.sizes later.sizes
   right p sees =
       let it = told p sees in
       let legal : is_legal (under First c ∷ p.calls) ≡ true = subst (λ h. is_legal h ≡ true) (joined p.calls (under First c) decided.reply it.accepted) (next_legal p.calls (under First c) p.first p.history.legal) in
-      turns p.owner p.calls c legal refl it.made p.right
+      stays p.owner p.calls (under First c) legal refl it.made p.right
 
-  made : (p : FirstPast f) → Sees desk_layout first (before f p) → with_first_calls later.sizes.calls (all_written decided.writes.items (tables p.owner p.calls)) ≡ tables p.owner (under First c ∷ p.calls)
-  made p sees = ap (with_first_calls later.sizes.calls) (told p sees).made ∙ counted_tables p.owner (under First c ∷ p.calls) later.sizes.calls p.first (right p sees).calls
+  known : (p : FirstPast r) → Sees desk_layout first (before r p) → AreAllKnown later.sizes
+  known p sees = all_known r.sizes later.sizes p.known (right p sees).1
 
-  pub follows_inside : FollowsInside f c (record { reply = decided.reply; figures = later }) first last
+  made : (p : FirstPast r) → Sees desk_layout first (before r p) → with_first_calls calls (all_written decided.writes.items (tables p.owner p.calls)) ≡ tables p.owner (under First c ∷ p.calls)
+  made p sees =
+      let later_tables = tables p.owner (under First c ∷ p.calls) in
+      ap (with_first_calls calls) (told p sees).made
+      ∙ counted_tables p.owner (under First c ∷ p.calls) calls p.first (tells later_tables (right p sees).0.sizes (known p sees))
+
+  pub follows_inside : FollowsInside r c (record { reply = decided.reply; remembered = later }) first last
   follows_inside = record {
     turned = record {
       is_open = λ o. wrote.is_open (seen.is_open o);
@@ -73,29 +82,29 @@ module _ (f : Figures) (c : Call) (v : View) (first read last : State) (decided 
       };
       value = λ p sees. subst (λ (t : Tables). Sees desk_layout last (contents t)) (made p sees) (wrote.value (tables p.owner p.calls) (seen.value (tables p.owner p.calls) sees));
     };
-    answered = λ p sees. record { accepted = (told p sees).accepted; right = right p sees };
+    answered = λ p sees. record { accepted = (told p sees).accepted; right = (right p sees).0; known = known p sees };
   }
 
 -- ---- the whole transaction
 
-module _ {S : Type 0} (g : store.Ghosts S) (old last end : Held S) (f : Figures) (c : Call) where
+module _ {S : Type 0} (g : store.Ghosts S) (old last end : Held S) (r : Remembered) (c : Call) where
   -- the transaction that began shows what the connection shows
-  sees_begun : (does : State → State → Type 0) → Worked g old last does → HasCleanDisk (state g last) → (p : FirstPast f) → ShowsHistory (state g old) p.owner p.calls
-      → Sees desk_layout (state g (record old { in_transaction = true })) (before f p)
+  sees_begun : (does : State → State → Type 0) → Worked g old last does → HasCleanDisk (state g last) → (p : FirstPast r) → ShowsHistory (state g old) p.owner p.calls
+      → Sees desk_layout (state g (record old { in_transaction = true })) (before r p)
   sees_begun does did late p shows = record {
     inside = refl;
     holds = (shows.holds (omega (arith, did.spares.clean, late)) ((did.kept late).was_open (did.inside late).0)).0;
   }
 
   -- the call was accepted, and its rows are committed
-  pub committed : (followed : Followed) → Worked g old last (ActsFirst f c (Some followed)) → HasCleanDisk (state g last)
-      → states.Shows (state g last) (state g end) (state g last).now (state g last).now false → FollowsOutside f c followed (state g old) (state g end)
+  pub committed : (followed : Followed) → Worked g old last (ActsFirst r c (Some followed)) → HasCleanDisk (state g last)
+      → states.Shows (state g last) (state g end) (state g last).now (state g last).now false → FollowsOutside r c followed (state g old) (state g end)
   committed followed did late done = record {
     is_open = done.is_open;
-    answered = λ p shows. (did.value late).answered p (sees_begun (ActsFirst f c (Some followed)) did late p shows);
-    shown = shows_all desk_layout (before f) (after f c) g old last end did.spares (λ clean. ((did.inside clean).0, (did.value clean).turned)) late done;
+    answered = λ p shows. (did.value late).answered p (sees_begun (ActsFirst r c (Some followed)) did late p shows);
+    shown = shows_all desk_layout (before r) (after r c) g old last end did.spares (λ clean. ((did.inside clean).0, (did.value clean).turned)) late done;
   }
 
   -- it wasn't accepted
-  pub passed : Worked g old last (ActsFirst f c None) → HasCleanDisk (state g last) → (p : FirstPast f) → ShowsHistory (state g old) p.owner p.calls → IsNotAccepted c p
-  passed did late p shows = did.value late p (sees_begun (ActsFirst f c None) did late p shows)
+  pub passed : Worked g old last (ActsFirst r c None) → HasCleanDisk (state g last) → (p : FirstPast r) → ShowsHistory (state g old) p.owner p.calls → IsNotAccepted c p
+  passed did late p shows = did.value late p (sees_begun (ActsFirst r c None) did late p shows)

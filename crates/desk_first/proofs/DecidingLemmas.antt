@@ -1,8 +1,9 @@
 -- From a decision by the first rules to a call that they accept, or don't.
-use Rattle.std.proofs.Common.{◌≡◌, ◌≢◌, inl, inr, ℕ, List, [], ◌∷◌, length, Ok, Err, refl, sym, ◌∙◌, ap, arith}
+use Rattle.std.proofs.Common.{◌≡◌, ◌≢◌, inl, inr, ℕ, List, [], ◌∷◌, length, Ok, Err, IsTrue, refl, sym, ◌∙◌, ap, arith}
 use Rattle.desk_bytes.specs.declared.refusal.Refusal.{Refusal}
 use Rattle.desk_bytes.specs.declared.refusal.Refusal.TheVariants as refusals
 use Rattle.desk_texts.specs.declared.command.Call.{Call}
+use Rattle.desk_texts.specs.declared.command.Command.TheVariants as command
 use Rattle.desk_texts.specs.declared.reply.Reply.{Reply}
 use Rattle.desk_history.specs.Calls.{First, History, Item, under}
 use Rattle.desk_history.specs.Replies.{minutes}
@@ -10,13 +11,15 @@ use Rattle.desk_history.specs.Runs.{is_accepted, next_item, ruling}
 use Rattle.desk_history.specs.Tables.{Tables, tables}
 use Rattle.desk_history.specs.Writes.{all_written}
 use Rattle.desk_history.specs.declared.answer.Answer.TheVariants.{Accepted}
-use Rattle.desk_rules.specs.First.{DecidesFirstCall, ShowsToFirst}
-use Rattle.desk_rules.specs.Shown.{Shows}
+use Rattle.desk_rules.specs.First.{DecidesFirstCall, ShowsToFirst, is_forced}
+use Rattle.desk_rules.specs.Shown.{Shows, rows_in, size_in}
+use Rattle.desk_rules.specs.declared.view.LimitedTable.{LimitedTable}
+use Rattle.desk_rules.specs.declared.view.LimitedTable.TheVariants as counted
+use Rattle.desk_rules.specs.declared.view.Sizes.{Sizes}
 use Rattle.desk_rules.specs.declared.view.Changes.{Changes}
 use Rattle.desk_rules.specs.declared.view.View.{View}
 use Rattle.desk_first.specs.Acts.{Accepts, AcceptsNot}
-use Rattle.desk_first.specs.Figures.{AreOf}
-use Rattle.desk_first.specs.declared.figures.Figures.{Figures}
+use Rattle.store_views.specs.sizes.Sizes.{Tell}
 
 no_items : {X : Type 0} (xs : List X) → length xs ≡ 0 → xs ≡ []
 no_items [] h = refl
@@ -55,13 +58,13 @@ module _ (v : View) (c : Call) where
   refused refusal other told owner cs legal first shows =
       elim (told owner cs legal first shows) [ inl is ↦ ap is_accepted is | inr memory ↦ absurd (other memory) ]
 
--- a view that shows the tables for the call, with the figures of the tables
-pub shows_first : (v : View) (f : Figures) (t : Tables) (c : Call) → Shows v t c → AreOf f t → ShowsToFirst (record v { sizes = f.sizes }) t c
-shows_first v f t c was right = record {
+-- a view that shows the tables for the call, with the sizes of the tables for it and for any Confirm
+pub shows_first : (v : View) (s : Sizes) (t : Tables) (c : Call) → Shows v t c → Tell s t c.command → Tell s t (command.Confirm 0) → ShowsToFirst (record v { sizes = s }) t c
+shows_first v s t c was told forced = record {
   call = record {
     stamp = was.stamp;
-    count = right.calls;
-    sizes = λ table _. right.rows table;
+    count = told.calls;
+    sizes = told.sizes;
     caller = was.caller;
     names = was.names;
     tokens = was.tokens;
@@ -71,5 +74,14 @@ shows_first v f t c was right = record {
     proposal = was.proposal;
     lists = was.lists;
   };
-  sizes = λ table _ _. right.rows table;
+  sizes = λ table _ puts. by table puts;
 }
+  where
+    by : (table : LimitedTable) → IsTrue (is_forced table) → size_in s table ≡ rows_in t table
+    by counted.RevokedDigests puts = forced.sizes counted.RevokedDigests refl
+    by counted.RevokedCertificates puts = forced.sizes counted.RevokedCertificates refl
+    by counted.Components puts = forced.sizes counted.Components refl
+    by counted.People puts = absurd (cc)
+    by counted.Requests puts = absurd (cc)
+    by counted.Listed puts = absurd (cc)
+    by counted.Proposals puts = absurd (cc)

@@ -1,5 +1,3 @@
 mod MigratedLemmas
-mod FiguresLemmas
-mod KnownLemmas
 mod DecidingLemmas
 mod ActingLemmas

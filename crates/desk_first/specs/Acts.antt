@@ -17,28 +17,30 @@ use Rattle.store_sql.specs.States.{Sees, Turns}
 use Rattle.store_schema.specs.Tables.{desk_layout}
 use Rattle.store_schema.specs.rows.Histories.{AreFirst, ShowsHistory, rows_of}
 use Rattle.desk_first.specs.declared.acting.Followed.{Followed}
-use Rattle.desk_first.specs.declared.figures.Figures.{Figures}
-use Rattle.desk_first.specs.Figures.{AreOf, but_migrated}
+use Rattle.store_views.specs.declared.remembered.Remembered.{Remembered}
+use Rattle.store_views.specs.remembered.Current.{IsCurrent}
+use Rattle.store_views.specs.sizes.Sizes.{AreAllKnown, but_migrated}
 
 -- A history of the first rules that the tables may represent, with the desk's owner: a desk may have
--- it, and the figures are those of its tables.
-pub record FirstPast (f : Figures) : Type 0 where
+-- it, and what is remembered is current for its tables and has each size.
+pub record FirstPast (r : Remembered) : Type 0 where
   pub owner : List ℕ
   pub calls : History
   pub history : IsHistory calls
   pub first : AreFirst calls
-  pub right : AreOf f (tables owner calls)
+  pub right : IsCurrent r (tables owner calls)
+  pub known : AreAllKnown r.sizes
 
 -- its rows
-abbrev pub before : (f : Figures) → FirstPast f → Contents
-before f p = rows_of p.owner p.calls
+abbrev pub before : (r : Remembered) → FirstPast r → Contents
+before r p = rows_of p.owner p.calls
 
 -- the rows of the history with the call
-abbrev pub after : (f : Figures) → Call → FirstPast f → Contents
-after f c p = rows_of p.owner (under First c ∷ p.calls)
+abbrev pub after : (r : Remembered) → Call → FirstPast r → Contents
+after r c p = rows_of p.owner (under First c ∷ p.calls)
 
 -- the call isn't accepted by the first rules
-abbrev pub IsNotAccepted : {f : Figures} → Call → FirstPast f → Type 0
+abbrev pub IsNotAccepted : {r : Remembered} → Call → FirstPast r → Type 0
 IsNotAccepted c p = is_accepted (ruling p.calls (under First c)) ≡ false
 
 -- ---- the decision
@@ -47,7 +49,7 @@ IsNotAccepted c p = is_accepted (ruling p.calls (under First c)) ≡ false
 -- count of calls
 pub record AcceptsWith (changes : Changes) (owner : List ℕ) (cs : History) (c : Call) : Type 0 where
   pub accepted : ruling cs (under First c) ≡ Accepted changes.reply
-  pub made : all_written changes.writes.items (tables owner cs) ≡ but_migrated owner cs c
+  pub made : all_written changes.writes.items (tables owner cs) ≡ but_migrated owner cs (under First c)
 
 -- so it is on each legal history of the first rules alone that the view shows for the call
 abbrev pub Accepts : View → Call → Changes → Type 0
@@ -63,28 +65,30 @@ AcceptsNot v c =
 
 -- ---- the call
 
--- the call is accepted with the reply, and the figures are those of the next history's tables
-pub record IsFollowed {f : Figures} (c : Call) (followed : Followed) (p : FirstPast f) : Type 0 where
+-- the call is accepted with the reply, and what is remembered is current for the next history's tables
+-- and has each size
+pub record IsFollowed {r : Remembered} (c : Call) (followed : Followed) (p : FirstPast r) : Type 0 where
   pub accepted : ruling p.calls (under First c) ≡ Accepted followed.reply
-  pub right : AreOf followed.figures (tables p.owner (under First c ∷ p.calls))
+  pub right : IsCurrent followed.remembered (tables p.owner (under First c ∷ p.calls))
+  pub known : AreAllKnown followed.remembered.sizes
 
 -- inside a transaction the tables turn into those of the next history, and the call is accepted
-pub record FollowsInside (f : Figures) (c : Call) (followed : Followed) (old new : State) : Type 0 where
-  pub turned : Turns desk_layout (before f) (after f c) old new
-  pub answered : (p : FirstPast f) → Sees desk_layout old (before f p) → IsFollowed c followed p
+pub record FollowsInside (r : Remembered) (c : Call) (followed : Followed) (old new : State) : Type 0 where
+  pub turned : Turns desk_layout (before r) (after r c) old new
+  pub answered : (p : FirstPast r) → Sees desk_layout old (before r p) → IsFollowed c followed p
 
 -- it is followed inside a transaction, or isn't accepted
-abbrev pub ActsFirst : Figures → Call → Option Followed → State → State → Type 0
-ActsFirst f c (Some followed) old new = FollowsInside f c followed old new
-ActsFirst f c None old new = (p : FirstPast f) → Sees desk_layout old (before f p) → IsNotAccepted c p
+abbrev pub ActsFirst : Remembered → Call → Option Followed → State → State → Type 0
+ActsFirst r c (Some followed) old new = FollowsInside r c followed old new
+ActsFirst r c None old new = (p : FirstPast r) → Sees desk_layout old (before r p) → IsNotAccepted c p
 
 -- the same for the connection outside, which is open after an accepted call
-pub record FollowsOutside (f : Figures) (c : Call) (followed : Followed) (old new : State) : Type 0 where
+pub record FollowsOutside (r : Remembered) (c : Call) (followed : Followed) (old new : State) : Type 0 where
   pub is_open : IsTrue new.is_open
-  pub answered : (p : FirstPast f) → ShowsHistory old p.owner p.calls → IsFollowed c followed p
-  pub shown : (p : FirstPast f) → ShowsHistory old p.owner p.calls → ShowsHistory new p.owner (under First c ∷ p.calls)
+  pub answered : (p : FirstPast r) → ShowsHistory old p.owner p.calls → IsFollowed c followed p
+  pub shown : (p : FirstPast r) → ShowsHistory old p.owner p.calls → ShowsHistory new p.owner (under First c ∷ p.calls)
 
 -- it is followed, or isn't accepted
-abbrev pub RunsFirst : Figures → Call → Option Followed → State → State → Type 0
-RunsFirst f c (Some followed) old new = FollowsOutside f c followed old new
-RunsFirst f c None old new = (p : FirstPast f) → ShowsHistory old p.owner p.calls → IsNotAccepted c p
+abbrev pub RunsFirst : Remembered → Call → Option Followed → State → State → Type 0
+RunsFirst r c (Some followed) old new = FollowsOutside r c followed old new
+RunsFirst r c None old new = (p : FirstPast r) → ShowsHistory old p.owner p.calls → IsNotAccepted c p

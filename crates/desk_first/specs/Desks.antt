@@ -10,16 +10,18 @@ use Rattle.desk_history.specs.Runs.{is_accepted, ruling}
 use Rattle.desk_history.specs.Tables.{tables}
 use Rattle.desk_history.specs.declared.answer.Answer.TheVariants.{Accepted}
 use Rattle.store_schema.specs.rows.Histories.{AreFirst, LeavesHistory, ShowsHistory}
-use Rattle.desk_first.specs.Figures.{AreOf}
+use Rattle.store_views.specs.remembered.Current.{IsCurrent}
+use Rattle.store_views.specs.sizes.Sizes.{AreAllKnown}
 use Rattle.desk_first.specs.declared.desk.FirstDesk.{FirstDesk}
 
--- The store shows a desk's history whose calls were all accepted by the first rules, the figures are
--- those of its tables, and a stop leaves these tables.
+-- The store shows a desk's history whose calls were all accepted by the first rules, what the desk
+-- remembers is current for its tables and has each size, and a stop leaves these tables.
 pub record ShowsFirstDesk {S : Type 0} (g : Ghosts S) (desk : FirstDesk S) (owner : List ℕ) (cs : History) : Type 0 where
   pub history : IsHistory cs
   pub first : AreFirst cs
   pub shows : ShowsHistory (state g desk.conn) owner cs
-  pub figures : AreOf desk.figures (tables owner cs)
+  pub remembered : IsCurrent desk.remembered (tables owner cs)
+  pub known : AreAllKnown desk.remembered.sizes
   pub left : LeavesHistory (state g desk.conn) owner cs
 
 module _ {S : Type 0} (g : Ghosts S) where

@@ -1,4 +1,3 @@
 pub mod Desks
-pub mod Figures
 pub mod Acts
 pub mod Steps

@@ -1,12 +1,12 @@
 //! One call by the first rules, in one transaction.
-ghost use Rattle.std.specs.Prelude.{◌≡◌, IfOk};
+ghost use Rattle.std.specs.Prelude.{◌≡◌, IfErr, IfOk};
 ghost use Rattle.sqlite.specs.Held.{state};
 ghost use Rattle.sqlite.specs.State.{HasCleanDisk};
+ghost use Rattle.store_reads.specs.Failures.{IsFailure};
 ghost use Rattle.store_sql.specs.States.{CommitsNothing, DoesInside, Spares, StaysInside};
 ghost use Rattle.desk_first.specs.Acts.{ActsFirst, RunsFirst};
 
 use crate::deciding::accepted;
-use crate::figures::Figures;
 use crate::viewing::first_view;
 use crate::writing::write_first;
 use desk_bytes::Refusal;
@@ -15,12 +15,13 @@ use desk_texts::Reply;
 use sqlite::{Alter, Connection, Transaction};
 use std::alloc::Global;
 use store_sql::StoreFault;
+use store_views::Remembered;
 
-/// A call that was followed: its reply, and the figures of the tables after it.
+/// A call that was followed: its reply, and what the desk remembers after it.
 #[derive(Drop)]
 pub(crate) struct Followed {
     pub(crate) reply: Reply,
-    pub(crate) figures: Figures,
+    pub(crate) remembered: Remembered,
 }
 
 /// The call inside its transaction: a call that the first rules accept has its rows written, and
@@ -28,17 +29,18 @@ pub(crate) struct Followed {
 fn act<S: Alter>(
     alloc: Global,
     tx: &mut Transaction<'_, S>,
-    figures: &Figures,
+    remembered: &Remembered,
     call: &CallRef<'_>,
 ) -> Result<Option<Followed>, Refusal>
     ensures same_reference { tx.new.conn.ghost_name ≡ tx.old.conn.ghost_name }
     ensures value { DoesInside S.Store tx.old.conn.now tx.new.conn.now result
-        (ActsFirst figures.now call.now) }
+        (ActsFirst remembered.now call.now) }
+    ensures failed { IfErr result IsFailure }
     ensures inside { StaysInside S.Store tx.old.conn.now tx.new.conn.now result }
     ensures kept { CommitsNothing S.Store tx.old.conn.now tx.new.conn.now }
     ensures survives { Spares S.Store tx.old.conn.now tx.new.conn.now }
 {
-    let view = match first_view(alloc, tx, figures, call) {
+    let view = match first_view(alloc, tx, remembered, call) {
         Ok(view) => view,
         Err(failure) => return Err(failure),
     };
@@ -47,11 +49,12 @@ fn act<S: Alter>(
         Ok(None) => return Ok(None),
         Err(refusal) => return Err(refusal),
     };
-    let later = figures.after(call.command, &changes.writes);
-    match write_first(alloc, tx, &changes.writes, later.sizes.calls) {
+    let later = remembered.after(call.command, &changes.writes);
+    let sizes = later.sizes.sizes();
+    match write_first(alloc, tx, &changes.writes, sizes.calls) {
         Ok(()) => Ok(Some(Followed {
             reply: changes.reply,
-            figures: later,
+            remembered: later,
         })),
         Err(fault) => Err(fault.refusal()),
     }
@@ -62,11 +65,13 @@ fn act<S: Alter>(
 pub(crate) fn run<S: Alter>(
     alloc: Global,
     conn: &mut Connection<S>,
-    figures: &Figures,
+    remembered: &Remembered,
     call: &CallRef<'_>,
 ) -> Result<Option<Followed>, Refusal>
     ensures ok { HasCleanDisk (state S.Store conn.new) → IfOk result (λ given.
-        RunsFirst figures.now call.now given (state S.Store conn.old) (state S.Store conn.new)) }
+        RunsFirst remembered.now call.now given
+        (state S.Store conn.old) (state S.Store conn.new)) }
+    ensures failed { IfErr result IsFailure }
     ensures clean { HasCleanDisk (state S.Store conn.new)
         → HasCleanDisk (state S.Store conn.old) }
 {
@@ -74,7 +79,7 @@ pub(crate) fn run<S: Alter>(
         return Err(Refusal::Store);
     }
     let mut tx = conn.transaction();
-    let followed = match act(alloc, &mut tx, figures, call) {
+    let followed = match act(alloc, &mut tx, remembered, call) {
         Ok(Some(followed)) => followed,
         Ok(None) => return Ok(None),
         Err(refusal) => return Err(refusal),

@@ -1,5 +1,5 @@
 //! The calls that the first rules accept.
-ghost use Rattle.std.specs.Prelude.{IfNone, IfOk, IfSome};
+ghost use Rattle.std.specs.Prelude.{◌≡◌, IfErr, IfNone, IfOk, IfSome};
 ghost use Rattle.desk_first.specs.Acts.{Accepts, AcceptsNot};
 
 use desk_bytes::Refusal;
@@ -17,6 +17,7 @@ pub(crate) fn accepted(
 ) -> Result<Option<Changes>, Refusal>
     ensures taken { IfOk result (λ given. IfSome given (Accepts view.now call.now)) }
     ensures other { IfOk result (λ given. IfNone given (AcceptsNot view.now call.now)) }
+    ensures named { IfErr result (λ refusal. refusal ≡ Refusal.NoMemory) }
 {
     match decide_first(alloc, view, call.caller, call.key, call.command) {
         Ok(changes) => {

@@ -5,7 +5,6 @@
 mod acting;
 mod deciding;
 mod desk;
-mod figures;
 mod viewing;
 mod writing;
 

@@ -19,6 +19,7 @@ use Rattle.desk_rules.specs.Shown.{Shows}
 use Rattle.desk_rules.specs.declared.view.Changes.{Changes as Decided}
 use Rattle.desk_rules.specs.declared.view.View.{View}
 use Rattle.store_views.specs.remembered.Current.{IsCurrent, StaysCurrent}
+use Rattle.store_views.proofs.SizeLemmas.{made_second}
 use Rattle.store_views.specs.declared.remembered.Remembered.{Remembered}
 use Rattle.store_sql.specs.States.{Changes, Sees}
 use Rattle.store_schema.specs.Tables.{desk_layout}
@@ -122,6 +123,7 @@ module _ (r : Remembered) (c : Call) where
             record {
               exact = exact p sees;
               right = subst (λ (cs : History). IsCurrent later (tables p.owner cs)) (sym joined)
-                  (follows p.owner p.calls c legal refl made (viewed.shown p.owner p.calls p.history sees p.right).1).0;
+                  (follows p.owner p.calls (item c) legal refl (made_second p.owner p.calls c (all_written d.writes.items (tables p.owner p.calls)) made)
+                  (viewed.shown p.owner p.calls p.history sees p.right).1).0;
             });
       }

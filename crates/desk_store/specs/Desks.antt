@@ -12,6 +12,7 @@ use Rattle.desk_history.specs.DecisionRefusals.{may_answer}
 use Rattle.desk_history.specs.Formed.{IsHistory}
 use Rattle.desk_history.specs.Runs.{answer, is_accepted, next, reply_in}
 use Rattle.desk_history.specs.Tables.{tables}
+use Rattle.desk_history.specs.declared.answer.Answer.{Answer}
 use Rattle.desk_history.specs.declared.answer.Answer.TheVariants.{Refused}
 use Rattle.store_views.specs.remembered.Current.{IsCurrent}
 use Rattle.store_sql.specs.States.{Leaves, Spares}
@@ -33,6 +34,12 @@ abbrev pub ForEachShown : {S : Type 0} → Ghosts S → Desk S → (List ℕ →
 ForEachShown g desk told = (owner : List ℕ) (cs : History) → ShowsDesk g desk owner cs → told owner cs
 
 module _ {S : Type 0} (g : Ghosts S) (old new : Desk S) where
+  -- This is the answer to the call, and the desk shows the history after it.
+  abbrev pub IsAnswered : Call → Answer → Type 0
+  IsAnswered c given =
+      (owner : List ℕ) (cs : History) → ShowsDesk g old owner cs
+      → (answer cs c ≡ given) × ShowsDesk g new owner (next cs c)
+
   -- Ok: the reply is the answer to the call, and the desk shows the history after it.
   abbrev pub Replies : Call → Reply → Type 0
   Replies c reply =

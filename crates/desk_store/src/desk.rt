@@ -11,11 +11,14 @@ ghost use Rattle.store_sql.specs.States.{Spares};
 ghost use Rattle.desk_history.specs.Tables.{tables};
 ghost use Rattle.store_views.specs.lists.Lists.{HoldsNoOther};
 ghost use Rattle.desk_history.specs.Called.{called};
+ghost use Rattle.desk_history.specs.Runs.{is_accepted};
 ghost use Rattle.desk_rules.specs.Shown.{Shows};
 ghost use Rattle.desk_rules.specs.Views.{ShowsLists, keys_of};
 ghost use Rattle.store_views.specs.Named.{HoldsNoRowBeyond};
-ghost use Rattle.desk_store.specs.Desks.{CommitsOnlyAccepted, ForEachShown, IsCallRefusal, MayStop};
-ghost use Rattle.desk_store.specs.Desks.{ReadsDesk, Refuses, Replies, ShowsDesk};
+ghost use Rattle.desk_store.specs.Acts.{IsNamed};
+ghost use Rattle.desk_store.specs.Desks.{CommitsOnlyAccepted, ForEachShown, IsAnswered};
+ghost use Rattle.desk_store.specs.Desks.{IsCallRefusal, KeepsDesk, MayStop, ReadsDesk, Refuses};
+ghost use Rattle.desk_store.specs.Desks.{Replies, ShowsDesk};
 ghost use Rattle.desk_store.specs.Founding.{Founded, HasFoundedBeside};
 ghost use Rattle.desk_store.specs.Headline.{Recovers};
 ghost use Rattle.desk_store.specs.Reopening.{FindsADesk};
@@ -29,7 +32,7 @@ use crate::founding::{found_at_once, names_are_free};
 use crate::opening::{bring_up, found_is_shown};
 use crate::questions::{ListsFor, RowsFor};
 use desk_bytes::{Guid, Refusal};
-use desk_history::{keys_stand_once, lives_keep_what_was_answered};
+use desk_history::{Answer, keys_stand_once, lives_keep_what_was_answered};
 use desk_rules::{CallRef, ListView, View};
 use desk_texts::{Caller, Command, Facts, Key, Reply, call_is_formed};
 use sbat::Stamp;
@@ -182,11 +185,67 @@ impl<S: Alter + Drop> Desk<S> {
 
     /// Answers the call, in one transaction whose commit is the last step: an accepted call's rows,
     /// and its minute with the reply, are stored before it is answered. A repeated key gets its
-    /// earlier reply again. Takes memory.
+    /// earlier reply again, and a refusal by the rules is an answer; both change nothing. Takes
+    /// memory.
     ///
-    /// A refusal by the rules changes nothing. `NoMemory`: memory was refused, and nothing was
-    /// stored. `Store`: the store failed, or isn't as a desk left it; the call was stored or it
-    /// wasn't, and each later call answers `Reopen` and does nothing.
+    /// `NoMemory`: memory was refused, and nothing was stored. `Store`: the store failed, or isn't
+    /// as a desk left it; the call was stored or it wasn't, and each later call answers `Reopen` and
+    /// does nothing.
+    pub fn answer(
+        &mut self,
+        caller: &Caller,
+        key: &Key,
+        command: &Command,
+    ) -> Result<Answer, Refusal>
+        ensures ok { HasCleanDisk (state S.Store self.new.conn) → IfOk result
+            (IsAnswered S.Store self.old self.new (called caller.now key.now command.now)) }
+        ensures failed { HasCleanDisk (state S.Store self.new.conn) → IfErr result (λ e.
+            e ≢ Refusal.Store → KeepsDesk S.Store self.old self.new) }
+        ensures stopped { MayStop S.Store self.old self.new
+            (called caller.now key.now command.now) }
+        ensures spares { CommitsOnlyAccepted S.Store self.old self.new
+            (called caller.now key.now command.now) }
+        ensures unwritten { IfErr result (λ e. e ≢ Refusal.Store
+            → Spares S.Store self.old.conn self.new.conn) }
+        ensures idle { IfOk result (λ given. is_accepted given ≡ false
+            → Spares S.Store self.old.conn self.new.conn) }
+        ensures clean { HasCleanDisk (state S.Store self.new.conn)
+            → HasCleanDisk (state S.Store self.old.conn) }
+        ensures poisons { IsErrOf result Refusal.Store → self.new.needs_reopening ≡ true }
+        ensures steady { result ≢ Err Refusal.Store
+            → self.new.needs_reopening ≡ self.old.needs_reopening }
+        ensures closed { self.old.needs_reopening ≡ true
+            → (result ≡ Err Refusal.Reopen) × (self.new ≡ self.old) }
+        ensures named { self.old.needs_reopening ≡ false → IfErr result IsFailure }
+        ensures ruled { IfOk result IsNamed }
+    {
+        if self.needs_reopening {
+            return Err(Refusal::Reopen);
+        }
+        call_is_formed(caller, key, command);
+        let remembered = self.remembered.take();
+        let call = CallRef {
+            caller,
+            key,
+            command,
+        };
+        match run(self.alloc, &mut self.conn, remembered, &call) {
+            Ok(acted) => {
+                stop_leaves_what_is_shown(&self.conn);
+                self.remembered = acted.remembered;
+                Ok(acted.answer)
+            }
+            Err(refusal) => {
+                self.needs_reopening = refusal == Refusal::Store;
+                Err(refusal)
+            }
+        }
+    }
+
+    /// The reply to the call, as `answer` gives it, whether it was accepted or is a repeat. Takes
+    /// memory.
+    ///
+    /// A refusal by the rules changes nothing. `NoMemory`, `Store`, `Reopen`: as for `answer`.
     pub fn apply(&mut self, caller: &Caller, key: &Key, command: &Command) -> Result<Reply, Refusal>
         ensures ok { HasCleanDisk (state S.Store self.new.conn) → IfOk result
             (Replies S.Store self.old self.new (called caller.now key.now command.now)) }
@@ -207,26 +266,9 @@ impl<S: Alter + Drop> Desk<S> {
             → (result ≡ Err Refusal.Reopen) × (self.new ≡ self.old) }
         ensures named { self.old.needs_reopening ≡ false → IfErr result IsCallRefusal }
     {
-        if self.needs_reopening {
-            return Err(Refusal::Reopen);
-        }
-        call_is_formed(caller, key, command);
-        let remembered = self.remembered.take();
-        let call = CallRef {
-            caller,
-            key,
-            command,
-        };
-        match run(self.alloc, &mut self.conn, remembered, &call) {
-            Ok(acted) => {
-                stop_leaves_what_is_shown(&self.conn);
-                self.remembered = acted.remembered;
-                result_of(acted.answer)
-            }
-            Err(refusal) => {
-                self.needs_reopening = refusal == Refusal::Store;
-                Err(refusal)
-            }
+        match self.answer(caller, key, command) {
+            Ok(answer) => result_of(answer),
+            Err(refusal) => Err(refusal),
         }
     }
 

@@ -1,36 +1,28 @@
--- Sizes after an accepted call.
-use Rattle.std.proofs.Common.{◌≡◌, ℕ, ◌+◌, ◌-◌, ◌<◌, ◌≤◌, Bool, true, ◌&&◌, List, ◌∷◌, length, Option, Some, None, refl, sym, ◌∙◌, ap, subst, arith}
-use Rattle.std.specs.Prelude.{IsTrue, count_by, is_some, nat_le, nat_lt}
-use Rattle.std.proofs.lemmas.Bool.{and_parts}
+-- Sizes after a call that either rules accept.
+use Rattle.std.proofs.Common.{◌≡◌, ℕ, ◌+◌, ◌-◌, ◌<◌, Bool, true, List, [], ◌∷◌, length, Option, Some, None, refl, sym, ◌∙◌, ap, subst, arith}
+use Rattle.std.specs.Prelude.{IsTrue, count_by, is_some, nat_lt}
 use Rattle.std.proofs.lemmas.Bool.Decides.{nat_tests}
-use Rattle.std.proofs.lemmas.List.{length-map}
 use Rattle.desk_texts.specs.declared.command.Call.{Call}
 use Rattle.desk_texts.specs.declared.command.Command.{Command}
 use Rattle.desk_texts.specs.declared.command.Command.TheVariants as command
 use Rattle.desk_texts.specs.Callers.{caller_name}
-use Rattle.desk_texts.specs.declared.kind.ListedKind.TheVariants as kinds
 use Rattle.desk_history.specs.declared.write.Write.{Write}
-use Rattle.desk_history.specs.Calls.{History, distinct, item}
-use Rattle.desk_history.specs.Level.{generations, names}
-use Rattle.desk_history.specs.Limits.{most_calls, most_level_components, most_listed, most_people, most_proposals, most_requests, most_revoked_certificates, most_revoked_digests}
+use Rattle.desk_history.specs.Calls.{History, Item, is_first, item}
 use Rattle.desk_history.specs.Listing.{listed}
-use Rattle.desk_history.specs.People.{people}
-use Rattle.desk_history.specs.Proposals.{proposal_state, proposals}
 use Rattle.desk_history.specs.Replies.{minutes}
-use Rattle.desk_history.specs.Requests.{requests, state}
-use Rattle.desk_history.specs.Revocations.{revocations}
 use Rattle.desk_history.specs.Runs.{is_legal}
-use Rattle.desk_history.specs.Tables.{Tables, level_row, proposal_row, request_row, tables}
+use Rattle.desk_history.specs.Tables.{Tables, tables}
 use Rattle.desk_history.specs.Writes.{all_written, written}
 use Rattle.desk_history.proofs.CountLemmas.{one_if}
-use Rattle.desk_history.proofs.RunLemmas.{IsNewest, Within, legal_parts, newest}
+use Rattle.desk_history.proofs.RunLemmas.{IsNewest, newest}
 use Rattle.desk_rules.specs.declared.view.LimitedTable.{LimitedTable}
 use Rattle.desk_rules.specs.declared.view.LimitedTable.TheVariants as counted
 use Rattle.desk_rules.specs.Room.{puts}
 use Rattle.desk_rules.specs.Shown.{rows_in}
-use Rattle.desk_rules.proofs.RoomLemmas.{certificates_step, components_step, digests_step, grows, minutes_length, people_step, proposals_step, requests_step}
+use Rattle.desk_rules.proofs.FewRows.{few_calls, few_rows}
+use Rattle.desk_rules.proofs.RoomLemmas.{certificates_step, components_step, digests_step, grows, people_step, proposals_step, requests_step}
 use Rattle.store_views.specs.declared.sizes.known.KnownSizes.{KnownSizes}
-use Rattle.store_views.specs.sizes.Sizes.{AreRight, Follows, KnowsNoLess, known}
+use Rattle.store_views.specs.sizes.Sizes.{AreAllKnown, AreEnough, AreRight, Follows, KnowsNoLess, but_migrated, known}
 use Rattle.store_views.specs.sizes.Steps.{listed_after, more, one_less, sizes_after}
 use Rattle.store_views.proofs.ListedLemmas.{Changed, listed_changes}
 
@@ -84,83 +76,110 @@ listed_goes k (command.ImportRevocations _) rows later right changed small = sam
 listed_goes k (command.Confirm _) rows later right changed small = same_goes k rows later right changed
 listed_goes k (command.Drop _) rows later right changed small = same_goes k rows later right changed
 
--- the last of eight
-last : (a b d e f g h m : Bool) → (a && b && d && e && f && g && h && m) ≡ true → m ≡ true
-last a b d e f g h m all = (and_parts (a && b && d && e && f && g && h) m all).1
+module _ (owner : List ℕ) (cs : History) (i : Item) (ws : List Write) (k : KnownSizes) (legal : is_legal (i ∷ cs) ≡ true)
+    (made : all_written ws (tables owner cs) ≡ but_migrated owner cs i) (right : AreRight k (tables owner cs)) where
+  abbrev later : History
+  later = i ∷ cs
 
-below : (n most : ℕ) → nat_le n most ≡ true → most ≤ 1000000 → n < 18446744073709551616
-below n most h few = grind (arith, nat_tests, h, few)
+  at : IsNewest cs i
+  at = newest cs i legal
 
-module _ (owner : List ℕ) (cs : History) (c : Call) (ws : List Write) (k : KnownSizes) (legal : is_legal (item c ∷ cs) ≡ true)
-    (made : all_written ws (tables owner cs) ≡ tables owner (item c ∷ cs)) (right : AreRight k (tables owner cs)) where
-  at : IsNewest cs (item c)
-  at = newest cs (item c) legal
+  few : (table : LimitedTable) → rows_in (tables owner later) table < 18446744073709551616
+  few = few_rows owner cs i legal
 
-  within : Within (item c ∷ cs)
-  within = legal_parts (item c ∷ cs) legal
+  -- the size of a table, by a measure that each write of a kind makes one more
+  grown : (measure : Tables → ℕ) (p : Write → Bool) → ((w : Write) (t : Tables) → measure (written w t) ≡ one_if (p w) + measure t)
+      → count_by p ws + measure (tables owner cs) ≡ measure (but_migrated owner cs i)
+  grown measure p step = sym (grows measure p step ws (tables owner cs)) ∙ ap measure made
 
-  counts : (f : Tables → ℕ) (p : Write → Bool) → ((w : Write) (t : Tables) → f (written w t) ≡ one_if (p w) + f t) → count_by p ws + f (tables owner cs) ≡ f (tables owner (item c ∷ cs))
-  counts f p step = sym (grows f p step ws (tables owner cs)) ∙ ap f made
-
-  goes : (table : LimitedTable) → Goes (known k table) (known (sizes_after k c.command ws) table) (rows_in (tables owner (item c ∷ cs)) table)
+  goes : (table : LimitedTable) → Goes (known k table) (known (sizes_after k i.call.command ws) table) (rows_in (tables owner later) table)
   goes counted.People =
-      more_goes k.people (count_by (puts counted.People) ws) (length (people cs)) (length (people (item c ∷ cs))) (right.sizes counted.People)
-      (counts (λ t. length t.people) (puts counted.People) people_step) (below (length (people (item c ∷ cs))) most_people within.people (omega arith))
-  goes counted.Requests = requests_go
-    where
-      small : rows_in (tables owner (item c ∷ cs)) counted.Requests < 18446744073709551616
-      small = rw (length-map (requests (item c ∷ cs)) (λ r. request_row (state (item c ∷ cs) r.number) r)) (below (length (requests (item c ∷ cs))) most_requests within.requests (omega arith))
-
-      requests_go : Goes k.requests (more k.requests (count_by (puts counted.Requests) ws)) (rows_in (tables owner (item c ∷ cs)) counted.Requests)
-      requests_go =
-          more_goes k.requests (count_by (puts counted.Requests) ws) (rows_in (tables owner cs) counted.Requests) (rows_in (tables owner (item c ∷ cs)) counted.Requests)
-          (right.sizes counted.Requests) (counts (λ t. length t.requests) (puts counted.Requests) requests_step) small
-  goes counted.Proposals = proposals_go
-    where
-      small : rows_in (tables owner (item c ∷ cs)) counted.Proposals < 18446744073709551616
-      small = rw (length-map (proposals (item c ∷ cs)) (λ p. proposal_row (proposal_state (item c ∷ cs) p.number) p)) (below (length (proposals (item c ∷ cs))) most_proposals within.proposals (omega arith))
-
-      proposals_go : Goes k.proposals (more k.proposals (count_by (puts counted.Proposals) ws)) (rows_in (tables owner (item c ∷ cs)) counted.Proposals)
-      proposals_go =
-          more_goes k.proposals (count_by (puts counted.Proposals) ws) (rows_in (tables owner cs) counted.Proposals) (rows_in (tables owner (item c ∷ cs)) counted.Proposals)
-          (right.sizes counted.Proposals) (counts (λ t. length t.proposals) (puts counted.Proposals) proposals_step) small
+      more_goes k.people (count_by (puts counted.People) ws) (rows_in (tables owner cs) counted.People) (rows_in (tables owner later) counted.People)
+      (right.sizes counted.People) (grown (λ t. length t.people) (puts counted.People) people_step) (few counted.People)
+  goes counted.Requests =
+      more_goes k.requests (count_by (puts counted.Requests) ws) (rows_in (tables owner cs) counted.Requests) (rows_in (tables owner later) counted.Requests)
+      (right.sizes counted.Requests) (grown (λ t. length t.requests) (puts counted.Requests) requests_step) (few counted.Requests)
+  goes counted.Proposals =
+      more_goes k.proposals (count_by (puts counted.Proposals) ws) (rows_in (tables owner cs) counted.Proposals) (rows_in (tables owner later) counted.Proposals)
+      (right.sizes counted.Proposals) (grown (λ t. length t.proposals) (puts counted.Proposals) proposals_step) (few counted.Proposals)
   goes counted.Listed =
-      listed_goes k.listed c.command (length (listed cs)) (length (listed (item c ∷ cs))) (right.sizes counted.Listed)
-      (listed_changes owner cs at.before (caller_name c.caller) c.command at.new.own) (below (length (listed (item c ∷ cs))) most_listed within.listed (omega arith))
+      listed_goes k.listed i.call.command (length (listed cs)) (length (listed later)) (right.sizes counted.Listed)
+      (listed_changes owner cs at.before (caller_name i.call.caller) i.call.command at.new.own) (few counted.Listed)
   goes counted.RevokedDigests =
-      more_goes k.revoked_digests (count_by (puts counted.RevokedDigests) ws) (length (distinct (revocations kinds.Digest cs))) (length (distinct (revocations kinds.Digest (item c ∷ cs))))
-      (right.sizes counted.RevokedDigests) (counts (λ t. length t.revoked_digests) (puts counted.RevokedDigests) digests_step)
-      (below (length (distinct (revocations kinds.Digest (item c ∷ cs)))) most_revoked_digests within.digests (omega arith))
+      more_goes k.revoked_digests (count_by (puts counted.RevokedDigests) ws) (rows_in (tables owner cs) counted.RevokedDigests) (rows_in (tables owner later) counted.RevokedDigests)
+      (right.sizes counted.RevokedDigests) (grown (λ t. length t.revoked_digests) (puts counted.RevokedDigests) digests_step) (few counted.RevokedDigests)
   goes counted.RevokedCertificates =
-      more_goes k.revoked_certificates (count_by (puts counted.RevokedCertificates) ws) (length (distinct (revocations kinds.Certificate cs))) (length (distinct (revocations kinds.Certificate (item c ∷ cs))))
-      (right.sizes counted.RevokedCertificates) (counts (λ t. length t.revoked_certificates) (puts counted.RevokedCertificates) certificates_step)
-      (below (length (distinct (revocations kinds.Certificate (item c ∷ cs)))) most_revoked_certificates within.certificates (omega arith))
-  goes counted.Components = components_go
-    where
-      small : rows_in (tables owner (item c ∷ cs)) counted.Components < 18446744073709551616
-      small = rw (length-map (names (generations (item c ∷ cs))) (level_row (generations (item c ∷ cs)))) (below (length (names (generations (item c ∷ cs)))) most_level_components within.components (omega arith))
+      more_goes k.revoked_certificates (count_by (puts counted.RevokedCertificates) ws) (rows_in (tables owner cs) counted.RevokedCertificates)
+      (rows_in (tables owner later) counted.RevokedCertificates) (right.sizes counted.RevokedCertificates)
+      (grown (λ t. length t.revoked_certificates) (puts counted.RevokedCertificates) certificates_step) (few counted.RevokedCertificates)
+  goes counted.Components =
+      more_goes k.components (count_by (puts counted.Components) ws) (rows_in (tables owner cs) counted.Components) (rows_in (tables owner later) counted.Components)
+      (right.sizes counted.Components) (grown (λ t. length t.components) (puts counted.Components) components_step) (few counted.Components)
 
-      components_go : Goes k.components (more k.components (count_by (puts counted.Components) ws)) (rows_in (tables owner (item c ∷ cs)) counted.Components)
-      components_go =
-          more_goes k.components (count_by (puts counted.Components) ws) (rows_in (tables owner cs) counted.Components) (rows_in (tables owner (item c ∷ cs)) counted.Components)
-          (right.sizes counted.Components) (counts (λ t. length t.components) (puts counted.Components) components_step) small
+  calls_go : Goes k.calls (more k.calls 1) (length (minutes later))
+  calls_go = more_goes k.calls 1 (length (minutes cs)) (length (minutes later)) right.calls (omega arith) (few_calls owner cs i legal)
 
-  calls_go : Goes k.calls (more k.calls 1) (length (minutes (item c ∷ cs)))
-  calls_go =
-      more_goes k.calls 1 (length (minutes cs)) (length (minutes (item c ∷ cs))) right.calls (omega arith)
-      (rw (minutes_length (item c ∷ cs)) (below (length (item c ∷ cs)) most_calls few (omega arith)))
-    where
-      few : nat_le (length (item c ∷ cs)) most_calls ≡ true
-      few = last (nat_le (length (people (item c ∷ cs))) most_people) (nat_le (length (requests (item c ∷ cs))) most_requests) (nat_le (length (proposals (item c ∷ cs))) most_proposals) (nat_le (length (listed (item c ∷ cs))) most_listed)
-          (nat_le (length (distinct (revocations kinds.Digest (item c ∷ cs)))) most_revoked_digests) (nat_le (length (distinct (revocations kinds.Certificate (item c ∷ cs)))) most_revoked_certificates)
-          (nat_le (length (names (generations (item c ∷ cs)))) most_level_components) (nat_le (length (item c ∷ cs)) most_calls) at.new.within
-
-  pub follows_one : AreRight (sizes_after k c.command ws) (tables owner (item c ∷ cs)) × KnowsNoLess k (sizes_after k c.command ws)
+  pub follows_one : AreRight (sizes_after k i.call.command ws) (tables owner later) × KnowsNoLess k (sizes_after k i.call.command ws)
   follows_one = (
     record { calls = calls_go.right; sizes = λ table. (goes table).right },
     record { calls = calls_go.kept; sizes = λ table. (goes table).kept },
   )
 
 pub follows : (k : KnownSizes) (given : Command) (ws : List Write) → Follows k given ws (sizes_after k given ws)
-follows k given ws owner cs c legal same made right =
-    subst (λ g. AreRight (sizes_after k g ws) (tables owner (item c ∷ cs)) × KnowsNoLess k (sizes_after k g ws)) same (follows_one owner cs c ws k legal made right)
+follows k given ws owner cs i legal same made right =
+    subst (λ g. AreRight (sizes_after k g ws) (tables owner (i ∷ cs)) × KnowsNoLess k (sizes_after k g ws)) same (follows_one owner cs i ws k legal made right)
+
+-- the tables that a call by the second rules makes: the first rules accepted no more
+pub made_second : (owner : List ℕ) (cs : History) (c : Call) (made : Tables) → made ≡ tables owner (item c ∷ cs) → made ≡ but_migrated owner cs (item c)
+made_second owner cs c made is =
+    let no_more : count_by is_first (item c ∷ cs) ≡ count_by is_first cs = omega arith in
+    is ∙ ap (λ (n : ℕ). record (tables owner (item c ∷ cs)) { migrated = record { id = 1; calls = n } ∷ [] }) no_more
+
+-- ---- the sizes of a desk without calls
+
+abbrev pub no_sizes : KnownSizes
+no_sizes = record {
+  people = Some 0;
+  calls = Some 0;
+  requests = Some 0;
+  listed = Some 0;
+  revoked_digests = Some 0;
+  revoked_certificates = Some 0;
+  components = Some 0;
+  proposals = Some 0;
+}
+
+none_at_first : (n : ℕ) → Some 0 ≡ Some n → n ≡ 0
+none_at_first n e = cc
+
+no_rows : (owner : List ℕ) (table : LimitedTable) (n : ℕ) → known no_sizes table ≡ Some n → n ≡ rows_in (tables owner []) table
+no_rows owner counted.People = none_at_first
+no_rows owner counted.Requests = none_at_first
+no_rows owner counted.Listed = none_at_first
+no_rows owner counted.RevokedDigests = none_at_first
+no_rows owner counted.RevokedCertificates = none_at_first
+no_rows owner counted.Components = none_at_first
+no_rows owner counted.Proposals = none_at_first
+
+pub right_at_first : (owner : List ℕ) → AreRight no_sizes (tables owner [])
+right_at_first owner = record { calls = none_at_first; sizes = no_rows owner }
+
+some_at_first : (table : LimitedTable) → IsTrue (is_some (known no_sizes table))
+some_at_first counted.People = refl
+some_at_first counted.Requests = refl
+some_at_first counted.Listed = refl
+some_at_first counted.RevokedDigests = refl
+some_at_first counted.RevokedCertificates = refl
+some_at_first counted.Components = refl
+some_at_first counted.Proposals = refl
+
+pub known_at_first : AreAllKnown no_sizes
+known_at_first = record { calls = refl; sizes = some_at_first }
+
+-- ---- sizes that stay known
+
+pub all_known : (before after : KnownSizes) → AreAllKnown before → KnowsNoLess before after → AreAllKnown after
+all_known before after was no_less = record { calls = no_less.calls was.calls; sizes = λ table. no_less.sizes table (was.sizes table) }
+
+pub enough : (k : KnownSizes) (given : Command) → AreAllKnown k → AreEnough k given
+enough k given all = record { calls = all.calls; sizes = λ table _. all.sizes table }

@@ -92,9 +92,9 @@ impl Remembered {
             .fold(self.stamp, |stamp, write| stamp_after(stamp, write))
     }
 
-    /// The stamp and the sizes after an accepted command, from those before it and the command's
-    /// writes: current if those were, and no size is lost. Nobody is looked up. It looks at writes,
-    /// never at rows.
+    /// The stamp and the sizes after a command that either rules accept, from those before it and
+    /// the command's writes: current if those were, and no size is lost. Nobody is looked up. It
+    /// looks at writes, never at rows.
     pub fn after(&self, command: &Command, writes: &[Write]) -> Remembered
         ensures { spec.StaysCurrent self.now command.now writes.now result }
     {

@@ -1,9 +1,8 @@
 -- Known sizes of tables, and when they are right.
 use Rattle.std.specs.Prelude.{◌≡◌, ℕ, not, List, ◌∷◌, length, Option, Some, None, is_some, IsTrue}
-use Rattle.desk_texts.specs.declared.command.Call.{Call}
 use Rattle.desk_texts.specs.declared.command.Command.{Command}
 use Rattle.desk_history.specs.declared.write.Write.{Write}
-use Rattle.desk_history.specs.Calls.{History, item}
+use Rattle.desk_history.specs.Calls.{History, Item}
 use Rattle.desk_history.specs.Runs.{is_legal}
 use Rattle.desk_history.specs.Tables.{Tables, tables}
 use Rattle.desk_history.specs.Writes.{all_written}
@@ -47,13 +46,23 @@ pub record KnowsNoLess (before after : KnownSizes) : Type 0 where
   pub calls : IsTrue (is_some before.calls) → IsTrue (is_some after.calls)
   pub sizes : (table : LimitedTable) → IsTrue (is_some (known before table)) → IsTrue (is_some (known after table))
 
--- If the sizes are right for the tables before an accepted call, those after are right for the
--- tables that any writes of its command make, and none is lost.
+-- each size is known
+pub record AreAllKnown (k : KnownSizes) : Type 0 where
+  pub calls : IsTrue (is_some k.calls)
+  pub sizes : (table : LimitedTable) → IsTrue (is_some (known k table))
+
+-- the tables of the history with this item, but for the row that says how many calls were accepted by
+-- the first rules, which no command writes
+abbrev pub but_migrated : List ℕ → History → Item → Tables
+but_migrated owner cs i = record (tables owner (i ∷ cs)) { migrated = (tables owner cs).migrated }
+
+-- If the sizes are right for the tables before a call that either rules accept, those after are right
+-- for the tables that any writes of its command make, and none is lost.
 abbrev pub Follows : KnownSizes → Command → List Write → KnownSizes → Type 0
 Follows before command ws after =
-    (owner : List ℕ) (cs : History) (c : Call) → IsTrue (is_legal (item c ∷ cs)) → c.command ≡ command
-    → all_written ws (tables owner cs) ≡ tables owner (item c ∷ cs)
-    → AreRight before (tables owner cs) → AreRight after (tables owner (item c ∷ cs)) × KnowsNoLess before after
+    (owner : List ℕ) (cs : History) (i : Item) → IsTrue (is_legal (i ∷ cs)) → i.call.command ≡ command
+    → all_written ws (tables owner cs) ≡ but_migrated owner cs i
+    → AreRight before (tables owner cs) → AreRight after (tables owner (i ∷ cs)) × KnowsNoLess before after
 
 -- the sizes that a command needs are known
 pub record AreEnough (k : KnownSizes) (command : Command) : Type 0 where

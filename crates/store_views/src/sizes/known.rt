@@ -1,5 +1,6 @@
 //! The sizes of the counted tables, if they are known.
-ghost use Rattle.std.specs.Prelude.{◌≡◌, Some};
+ghost use Rattle.std.specs.Prelude.{◌≡◌, ℕ, List, [], Some};
+ghost use Rattle.desk_history.specs.Tables.{tables};
 ghost use Rattle.store_views.specs.sizes.Sizes as spec;
 ghost use Rattle.store_views.specs.sizes.Steps as steps;
 
@@ -69,6 +70,24 @@ impl KnownSizes {
             revoked_certificates: None,
             components: None,
             proposals: None,
+        }
+    }
+
+    /// Each size is known: those of a desk without calls.
+    pub fn of_no_calls() -> KnownSizes
+        ensures known { spec.AreAllKnown result }
+        ensures right { (owner : List ℕ) → spec.AreRight result (tables owner []) }
+    {
+        let none = Some(0);
+        KnownSizes {
+            people: none,
+            calls: none,
+            requests: none,
+            listed: none,
+            revoked_digests: none,
+            revoked_certificates: none,
+            components: none,
+            proposals: none,
         }
     }
 
@@ -181,8 +200,8 @@ impl KnownSizes {
         }
     }
 
-    /// The sizes after an accepted command, from those before it and the command's writes: right if
-    /// those were, and none is lost. It counts writes, never rows.
+    /// The sizes after a command that either rules accept, from those before it and the command's
+    /// writes: right if those were, and none is lost. It counts writes, never rows.
     pub fn after(&self, command: &Command, writes: &[Write]) -> KnownSizes
         ensures { spec.Follows self.now command.now writes.now result }
     {

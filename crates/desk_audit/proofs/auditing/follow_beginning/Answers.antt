@@ -1,4 +1,4 @@
-use Rattle.std.proofs.Common.{◌+◌, Err, IfSome, ap, refl, sym, subst}
+use Rattle.std.proofs.Common.{◌+◌, Err, IfSome, ap, refl, sym, subst, ◌∙◌}
 use Rattle.sqlite.specs.Held.{state}
 use Rattle.sqlite.specs.State.{HasCleanDisk}
 use Rattle.desk_history.specs.Calls.{First}
@@ -8,6 +8,7 @@ use Rattle.desk_audit.specs.Audits.{IsWrongAt}
 use Rattle.desk_audit.specs.Following.{GoesOn, TellsSecond}
 use Rattle.desk_audit.specs.Rules.{HasFollowedFirst}
 use Rattle.desk_audit.proofs.AuditLemmas.{first_goes_on, first_wrong}
+use Rattle.desk_audit.proofs.LineLemmas.{no_refusal}
 use Rattle.desk_audit.proofs.auditing.follow_beginning.Goals as goal
 
 pub returns-in-Ok-false-clause-ok : goal.returns-in-Ok-false-clause-ok
@@ -36,7 +37,7 @@ returns-in-Err-follow_first-clause-wrong g c = λ clean n is owner shown.
     let mid : HasCleanDisk (state g.S.Store at.desk.conn) = c.in-Err-follow_first.ensures.clean clean in
     let f = at.invariant.1 mid owner shown in
     let takes = c.in-Ok-true.ensures.some c.in-Ok-true.field-0-test in
-    let place = c.at_line.ensures n is in
+    let place = c.at_line.ensures.line n is in
     let none = c.in-Err-follow_first.ensures.wrong clean (ap Err place.0) owner f.history f.shows (ap (λ k. k + 1) (sym f.count)) in
     subst (λ m. IfSome (g.R.Read.remaining c.args.reader.now) (λ given. IsWrongAt given m)) (sym place.1)
     (first_wrong g.S.Store at.desk owner at.calls (g.R.Read.remaining c.args.reader.now) (g.R.Read.remaining at.reader) (g.R.Read.remaining c.next_line.new.reader)
@@ -53,4 +54,8 @@ loop-calls-preserved g c =
           let next = c.in-Ok-Joined.ensures.joined clean c.in-Ok-Joined.field-0-is owner f.history f.shows (ap (λ k. k + 1) (sym f.count)) in
           first_goes_on g.S.Store at.desk c.follow_first.new.desk owner at.calls (g.R.Read.remaining c.args.reader.now) (g.R.Read.remaining at.reader) (g.R.Read.remaining c.next_line.new.reader)
           c.next_line.new.line.items f takes (subst (GoesOn First (ShowsFirstDesk g.S.Store c.follow_first.new.desk owner) f.history) c.as_slice.ensures.value next),
+      c.in-Ok-true.ensures.steady (no_refusal c.in-Ok-true.field-0) ∙ at.invariant.2,
     )
+
+pub returns-in-Err-follow_first-clause-named : goal.returns-in-Err-follow_first-clause-named
+returns-in-Err-follow_first-clause-named g c = c.at_line.ensures.named c.in-Err-follow_first.ensures.named c.next_line.new.self

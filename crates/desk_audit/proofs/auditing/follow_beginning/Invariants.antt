@@ -1,4 +1,4 @@
-use Rattle.std.proofs.Common.{◌-◌, ◌^◌, ℕ, List, []}
+use Rattle.std.proofs.Common.{◌≡◌, ◌-◌, ◌^◌, ℕ, List, []}
 use Rattle.sqlite.specs.Held.{state}
 use Rattle.sqlite.specs.State.{HasCleanDisk}
 use Rattle.desk_first.specs.Desks.{ShowsFirstDesk}
@@ -9,6 +9,7 @@ abbrev pub invariant-loop-calls : goal.invariant-loop-calls
 invariant-loop-calls g l = (HasCleanDisk (state g.S.Store l.desk.conn) → HasCleanDisk (state g.S.Store l.initial.desk.conn))
     × (HasCleanDisk (state g.S.Store l.desk.conn) → (owner : List ℕ) → ShowsFirstDesk g.S.Store l.initial.desk owner []
     → HasFollowedFirst g.S.Store l.desk owner l.calls (g.R.Read.remaining l.initial.reader) (g.R.Read.remaining l.reader))
+    × (l.watch ≡ l.initial.watch)
 
 abbrev pub decreases-loop-calls : goal.decreases-loop-calls
 decreases-loop-calls g l = 2 ^ 64 - l.calls

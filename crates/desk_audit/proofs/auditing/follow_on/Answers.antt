@@ -18,7 +18,7 @@ returns-in-Err-clause-wrong g c = λ clean n is owner first was.
     let now = g.R.Read.remaining c.args.reader.now in
     let line = c.args.line.now.items in
     let number = c.in-Before.number in
-    let place = c.at_line.ensures n is in
+    let place = c.at_line.ensures.line n is in
     let before = subst (λ x. HasTurned g.S.Store desk owner x first now line) c.in-Before.is was in
     let ends = subst (EndsBefore g.S.Store desk number) c.as_slice.ensures.value (c.in-Err.ensures.wrong clean (ap Err place.0)) in
     subst (λ m. IfSome first (λ given. IsWrongAt given m)) (sym place.1) (turn_wrong g.S.Store desk owner number first now line before ends)
@@ -44,3 +44,6 @@ returns-in-Err-follow_rest-clause-wrong g c = λ clean n is owner first was.
     let before = subst (λ x. HasTurned g.S.Store desk owner x first now line) c.in-Before.is was in
     let goes = subst (GoesOnWith g.S.Store desk c.follow.new.desk number) c.as_slice.ensures.value (c.in-Ok.ensures.ok mid) in
     c.in-Err-follow_rest.ensures.wrong clean n is owner first (turns g.S.Store desk c.follow.new.desk owner number first now line before goes)
+
+pub returns-in-Err-clause-named : goal.returns-in-Err-clause-named
+returns-in-Err-clause-named g c = c.at_line.ensures.named c.in-Err.ensures.named c.args.watch.now

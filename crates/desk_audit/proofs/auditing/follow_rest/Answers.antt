@@ -1,4 +1,4 @@
-use Rattle.std.proofs.Common.{◌+◌, Err, IfSome, ap, sym, subst}
+use Rattle.std.proofs.Common.{◌+◌, Err, IfSome, ap, sym, subst, ◌∙◌}
 use Rattle.sqlite.specs.Held.{state}
 use Rattle.sqlite.specs.State.{HasCleanDisk}
 use Rattle.desk_history.specs.Calls.{Second, item}
@@ -7,6 +7,7 @@ use Rattle.desk_audit.specs.Audits.{IsWrongAt}
 use Rattle.desk_audit.specs.Following.{GoesOn, HasNoneBy}
 use Rattle.desk_audit.proofs.AuditLemmas.{ended, goes_on, second_wrong, still_second}
 use Rattle.desk_audit.proofs.FollowingLemmas.{none_second}
+use Rattle.desk_audit.proofs.LineLemmas.{no_refusal}
 use Rattle.desk_audit.proofs.auditing.follow_rest.Goals as goal
 
 pub returns-in-Ok-false-clause-ok : goal.returns-in-Ok-false-clause-ok
@@ -21,7 +22,7 @@ returns-in-Err-follow-clause-wrong g c = λ clean n is owner first was.
     let kept = at.invariant.1 mid owner first was in
     let f = kept.followed in
     let takes = c.in-Ok-true.ensures.some c.in-Ok-true.field-0-test in
-    let place = c.at_line.ensures n is in
+    let place = c.at_line.ensures.line n is in
     let line = c.next_line.new.line.items in
     let none = c.in-Err-follow.ensures.wrong clean (ap Err place.0) owner f.history f.shows (ap (λ k. k + 1) (sym f.count)) in
     subst (λ m. IfSome first (λ given. IsWrongAt given m)) (sym place.1)
@@ -41,4 +42,8 @@ loop-calls-preserved g c =
           let next = subst (GoesOn Second (ShowsDesk g.S.Store c.follow.new.desk owner) f.history) c.as_slice.ensures.value said in
           goes_on g.S.Store at.desk c.follow.new.desk owner at.calls first (g.R.Read.remaining at.reader) (g.R.Read.remaining c.next_line.new.reader)
           c.next_line.new.line.items f takes next (still_second f.history (item next.call) kept.second),
+      c.in-Ok-true.ensures.steady (no_refusal c.in-Ok-true.field-0) ∙ at.invariant.2,
     )
+
+pub returns-in-Err-follow-clause-named : goal.returns-in-Err-follow-clause-named
+returns-in-Err-follow-clause-named g c = c.at_line.ensures.named c.in-Err-follow.ensures.named c.next_line.new.self

@@ -1,4 +1,4 @@
-use Rattle.std.proofs.Common.{◌-◌, ◌^◌, ℕ, List, Option}
+use Rattle.std.proofs.Common.{◌≡◌, ◌-◌, ◌^◌, ℕ, List, Option}
 use Rattle.sqlite.specs.Held.{state}
 use Rattle.sqlite.specs.State.{HasCleanDisk}
 use Rattle.desk_audit.specs.Rules.{HasFollowedSecond}
@@ -9,6 +9,7 @@ invariant-loop-calls g l = (HasCleanDisk (state g.S.Store l.desk.conn) → HasCl
     × (HasCleanDisk (state g.S.Store l.desk.conn) → (owner : List ℕ) (first : Option (List ℕ))
     → HasFollowedSecond g.S.Store l.initial.desk owner l.before first (g.R.Read.remaining l.initial.reader)
     → HasFollowedSecond g.S.Store l.desk owner l.calls first (g.R.Read.remaining l.reader))
+    × (l.watch ≡ l.initial.watch)
 
 abbrev pub decreases-loop-calls : goal.decreases-loop-calls
 decreases-loop-calls g l = 2 ^ 64 - l.calls

@@ -10,7 +10,7 @@ pub returns-in-Ok-Some-clause-accepted : goal.returns-in-Ok-Some-clause-accepted
 returns-in-Ok-Some-clause-accepted g c clean owner cs was =
     let call = c.args.call.now in
     let ran = (rw c.in-Ok-Some.field-0-is at c.in-Ok-Some.ensures.ok) clean in
-    let p : FirstPast c.args.self.now.figures = record { owner = owner; calls = cs; history = was.history; first = was.first; right = was.figures } in
+    let p : FirstPast c.args.self.now.remembered = record { owner = owner; calls = cs; history = was.history; first = was.first; right = was.remembered; known = was.known } in
     let it = ran.answered p was.shows in
     let shows = ran.shown p was.shows in (
       it.accepted,
@@ -18,7 +18,8 @@ returns-in-Ok-Some-clause-accepted g c clean owner cs was =
         history = joined_history cs call c.in-Ok-Some.followed.reply was.history was.first c.call_is_formed.ensures it.accepted;
         first = was.first;
         shows = shows;
-        figures = it.right;
+        remembered = it.right;
+        known = it.known;
         left = c.stop_leaves_what_is_shown.ensures desk_layout (rows_of owner (under First call ∷ cs)) shows ran.is_open;
       },
     )
@@ -26,4 +27,4 @@ returns-in-Ok-Some-clause-accepted g c clean owner cs was =
 pub returns-in-Ok-None-clause-other : goal.returns-in-Ok-None-clause-other
 returns-in-Ok-None-clause-other g c clean owner cs was =
     let ran = (rw c.in-Ok-None.field-0-is at c.in-Ok-None.ensures.ok) clean in
-    ran (record { owner = owner; calls = cs; history = was.history; first = was.first; right = was.figures }) was.shows
+    ran (record { owner = owner; calls = cs; history = was.history; first = was.first; right = was.remembered; known = was.known }) was.shows

@@ -6,6 +6,7 @@ returns-clause-shown g c owner was = rw c.release.ensures (record {
   history = was.history;
   first = refl;
   shows = was.shows;
-  figures = c.of_no_calls.ensures owner;
+  remembered = record { stamp = c.original.ensures; sizes = c.of_no_calls.ensures.right owner; person = tt };
+  known = c.of_no_calls.ensures.known;
   left = was.left;
 })
