@@ -12,4 +12,5 @@ mod summary;
 mod writing;
 
 pub use auditing::{audit_file, audit_input};
+pub use desk_audit::LineWatch;
 pub use running::run_audit;

@@ -1,6 +1,6 @@
 //! The subcommand `audit`, as it runs: what it prints goes through a buffer to the standard output.
 //! It has no clauses, so that a program that calls it loads none.
-use crate::{audit_file, audit_input};
+use crate::{LineWatch, audit_file, audit_input};
 use cli_lines::{Buffered, Ending, Fault, Outcome};
 use desk_bytes::{Guid, Refusal};
 use desk_exports::Export;
@@ -14,10 +14,11 @@ fn audit_named<W: Buffered>(
     what: Option<Export>,
     out: &mut W,
 ) -> Result<(), Fault> {
+    let mut watch = LineWatch::new();
     if file == "-" {
-        audit_input(rt.alloc(), owner, rt.stdin(), what, out)
+        audit_input(rt.alloc(), owner, rt.stdin(), &mut watch, what, out)
     } else {
-        audit_file(rt, owner, file, what, out)
+        audit_file(rt, owner, file, &mut watch, what, out)
     }
 }
 
