@@ -28,7 +28,7 @@ use Rattle.desk_bytes.specs.declared.refusal.Refusal.TheVariants as refusals
 use Rattle.store_sql.specs.States.{Leaves}
 use Rattle.sqlite.specs.Tree.{Trees}
 use Rattle.store_schema.specs.Columns.{by_first, columns_after, names_of}
-use Rattle.store_schema.specs.Tables.{desk, desk_layout, desk_schema, first_layout, first_schema}
+use Rattle.store_schema.specs.Tables.{desk, desk_schema, first_schema}
 use Rattle.store_schema.specs.declared.selecting.TheConstants.{SELECT_DESK}
 use Rattle.store_schema.proofs.SelectFacts.{select_desk, select_first_desk}
 use Rattle.store_reads.specs.Own.{ReadsAs, ReadsAsNone, ReadsBy, own_columns}
