@@ -1,3 +1,4 @@
+mod BesideLemmas
 mod FoundingLemmas
 mod RememberedLemmas
 mod StampLemmas

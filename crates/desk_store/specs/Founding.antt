@@ -1,5 +1,7 @@
 -- The founding of a desk in a store that has other tables.
-use Rattle.std.specs.Prelude.{◌≡◌, ℕ, ◌+◌, List, [], ◌++◌, length, map}
+use Rattle.std.specs.Prelude.{◌≡◌, ℕ, ◌+◌, List, [], ◌∷◌, ◌++◌, length, map, codes, None}
+use Rattle.sqlite.specs.Change.{created}
+use Rattle.sqlite.specs.Kind.TheVariants.{Text}
 use Rattle.sqlite.specs.Schema.{Schema}
 use Rattle.sqlite.specs.State.{State}
 use Rattle.sqlite.specs.Tree.{Trees}
@@ -7,7 +9,7 @@ use Rattle.desk_history.specs.Tables.{tables}
 use Rattle.store_sql.specs.Contents.{AreTablesOf, Contents, Holds}
 use Rattle.store_sql.specs.Layouts.{alone}
 use Rattle.store_sql.specs.Meanings.{MakeTables, schema_after}
-use Rattle.store_schema.specs.Tables.{added_tables, defined, first_tables, no_schema}
+use Rattle.store_schema.specs.Tables.{added_tables, column_of, defined, first_tables, no_schema, table_of}
 use Rattle.store_schema.specs.declared.creating.TheConstants.{CREATE_ADDED_TABLES, CREATE_TABLES}
 use Rattle.store_schema.specs.rows.Histories.{HoldsHistory, rows_of}
 use Rattle.store_schema.specs.rows.Values.{desk_values, migrated_values}
@@ -32,6 +34,14 @@ pub record AllowsDesk (schema : Schema) (owner : List ℕ) : Type 0 where
   pub own_row : puts.own.row ≡ desk_values (tables owner []).desk
   pub calls_at : puts.calls.at ≡ length schema.tables + 14
   pub calls_row : puts.calls.row ≡ migrated_values (record { id = 1; calls = 0 })
+
+-- own: the schema of a store with one table of somebody else's: notes, each a text
+abbrev pub notes_schema : Schema
+notes_schema = created no_schema (table_of (codes "notes") 0 (column_of (codes "note") Text ∷ []) None [] [])
+
+-- a desk of any owner can be founded beside it
+abbrev pub NotesAllowADesk : Type 0
+NotesAllowADesk = (owner : List ℕ) → AllowsDesk notes_schema owner
 
 -- Inside a transaction: a store of such tables keeps their rows, and has after them the fifteen with
 -- the rows of a desk without calls.

@@ -10,6 +10,7 @@ mod desk;
 mod exports;
 mod founding;
 mod impacts;
+mod laws;
 mod living;
 mod officer_questions;
 mod officers;
@@ -22,6 +23,7 @@ mod shown_each;
 
 pub use desk::Desk;
 pub use desk_exports::RequestList;
+pub use laws::notes_allow_a_desk;
 pub use living::{calls_make_lives, openings_begin_lives};
 pub use restarting::{reopen, restart};
 pub use store_counts::{Counts, KindCounts, ListCounts, RequestCounts};

@@ -1,4 +1,4 @@
-use Rattle.std.proofs.Common.{◌≡◌, inl, inr, None, Some, find, rules, refl, subst, sym, ap}
+use Rattle.std.proofs.Common.{◌≡◌, inl, None, Some, find, rules, refl, subst, sym}
 use Rattle.desk_history.specs.Impact.{standing_of}
 use Rattle.desk_rules.specs.Shown.{is_proposal_row}
 use Rattle.desk_rules.specs.Entries.{StandsAs, held_standing}

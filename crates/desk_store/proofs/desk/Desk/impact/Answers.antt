@@ -1,6 +1,5 @@
 use Rattle.std.proofs.Common.{◌≡◌, ◌∙◌, [], Ok, Err, refl}
 use Rattle.desk_history.specs.ImpactShown.{impact_for}
-use Rattle.store_reads.specs.Failures.{IsFailure}
 use Rattle.desk_store.specs.Desks.{ForEachShown}
 use Rattle.desk_store.specs.Impacts.{Foretells, IsImpactRefusal}
 use Rattle.desk_store.proofs.ImpactLemmas.{all_shown, no_items, none_shown, refused_so}

@@ -1,4 +1,4 @@
-use Rattle.std.proofs.Common.{Err, false, sym, subst, ◌∙◌}
+use Rattle.std.proofs.Common.{Err, sym, subst, ◌∙◌}
 use Rattle.desk_history.specs.People.{people}
 use Rattle.desk_history.specs.Tables.{tables}
 use Rattle.store_views.specs.remembered.Current.{IsCurrent}

@@ -1,5 +1,3 @@
-use Rattle.sqlite.specs.Held.{state}
-use Rattle.desk_store.specs.Impacts.{AreBarredBy}
 use Rattle.desk_store.proofs.impacts.BarringQuestion.read.Goals as goal
 
 pub returns-in-Ok-clause-value : goal.returns-in-Ok-clause-value
