@@ -1,6 +1,6 @@
 -- A reading, from the call of its name.
 use Rattle.std.proofs.Common.{◌≡◌, ◌≢◌, ◌⊎◌, inl, inr, ℕ, List, Bool, true, false, Result, Ok, Err, refl, sym, ap, subst, ◌∙◌, arith}
-use Rattle.std.specs.Prelude.{IfErr, IsErrOf, MatchResult}
+use Rattle.std.specs.Prelude.{IfErr, MatchResult}
 use Rattle.sqlite.specs.Store as store
 use Rattle.desk_bytes.specs.declared.refusal.Refusal.{Refusal}
 use Rattle.desk_bytes.specs.declared.refusal.Refusal.TheVariants as refusals
@@ -19,14 +19,6 @@ pub as_given : {A B C : Type 0} (d : Result A Refusal) (P : A → B → Type 0) 
     → MatchResult d (λ w. P w x) (λ _. ⊥) → IsGiven d (Ok s) Q
 as_given (Ok w) P Q x s each h = each w h
 as_given (Err refusal) P Q x s each h = absurd h
-
--- the same where the call gives what is due itself
-pub as_same : {A C : Type 0} (d : Result A Refusal) (Q : A → C → Type 0) (x : A) (s : C) → Q x s → d ≡ Ok x → IsGiven d (Ok s) Q
-as_same d Q x s holds is = subst (λ e. IsGiven e (Ok s) Q) (sym is) holds
-
--- its refusal is the refusal
-pub as_refused : {A C : Type 0} (d : Result A Refusal) (Q : A → C → Type 0) (refusal : Refusal) → d ≡ Err refusal → IsGiven d (Err refusal) Q
-as_refused d Q refusal is = subst (λ e. IsGiven e (Err refusal) Q) (sym is) refl
 
 -- ---- what came of the desk
 
@@ -80,16 +72,10 @@ module _ {S : Type 0} (g : store.Ghosts S) (may : Refusal → Type 0) (old new :
     named = elim it.named [ inl is ↦ inl (wider is) | inr reopen ↦ inr reopen ];
   }
 
-  -- Ok, of more refusals
-  pub reads_more : {A : Type 0} (more : Refusal → Type 0) (x : A) → ReadsOnly g may old new (Ok x) → ReadsOnly g more old new (Ok x)
-  reads_more more x it = record {
-    same = it.same;
-    spares = it.spares;
-    clean = it.clean;
-    poisons = it.poisons;
-    steady = it.steady;
-    named = tt;
-  }
+-- the same from a call of a name
+pub reads_refused : {S A B : Type 0} (g : store.Ghosts S) (may : Refusal → Type 0) (old new : Desk S) (refusal : Refusal)
+    → ReadsDesk {A = A} g may old new (Err refusal) → ReadsOnly {A = B} g may old new (Err refusal)
+reads_refused g may old new refusal it = reads_err g may old new may refusal (λ is. is) (of_reads g may old new (Err refusal) it)
 
 -- ---- what is given, for a reading that is known
 

@@ -1,5 +1,5 @@
 -- Refusals of what was read, in the words of readings.
-use Rattle.std.proofs.Common.{◌≡◌, ◌⊎◌, inl, inr, IsTrue, true, false, refl, sym, subst, Result, Ok, Err}
+use Rattle.std.proofs.Common.{◌⊎◌, inl, inr, IsTrue, false, refl, sym, subst, Result, Ok, Err}
 use Rattle.std.specs.Prelude.{IfErr}
 use Rattle.desk_bytes.specs.declared.refusal.Refusal.{Refusal}
 use Rattle.desk_bytes.specs.declared.refusal.Refusal.TheVariants as refusals

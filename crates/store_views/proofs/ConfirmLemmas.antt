@@ -78,7 +78,7 @@ names_all owner cs h readable stamped = record {
 
 -- ---- a view for a Confirm, without people and calls
 
-pub shows_confirm : (v : View) (t : Tables) (k : ℕ) → NamesAll t → v.stamp ≡ t.desk.stamp → v.sizes.calls ≡ length t.calls
+shows_confirm : (v : View) (t : Tables) (k : ℕ) → NamesAll t → v.stamp ≡ t.desk.stamp → v.sizes.calls ≡ length t.calls
     → ((table : LimitedTable) → IsTrue (may_put (command.Confirm k) table) → size_in v.sizes table ≡ rows_in t table) → v.people.items ≡ [] → v.calls.items ≡ []
     → ShowsProposal v.proposals.items t (Some k) → ShowsLists v.lists t (keys_asked t (to_confirm k)) → Shows v t (to_confirm k)
 shows_confirm v t k all stamp count sizes nobody no_call proposal lists = record {
@@ -95,7 +95,7 @@ shows_confirm v t k all stamp count sizes nobody no_call proposal lists = record
   lists = lists;
 }
 
-pub holds_confirm : (v : View) (k : ℕ) → v.people.items ≡ [] → v.calls.items ≡ [] → v.requests.items ≡ [] → v.votes.items ≡ []
+holds_confirm : (v : View) (k : ℕ) → v.people.items ≡ [] → v.calls.items ≡ [] → v.requests.items ≡ [] → v.votes.items ≡ []
     → All (λ (r : ProposalRow). proposal_named (command.Confirm k) ≡ Some r.number) v.proposals.items → HoldsNoOther v.lists (keys_with (command.Confirm k) (λ n. find (is_proposal_row n) v.proposals.items))
     → HoldsNoRowBeyond v (to_confirm k)
 holds_confirm v k people calls requests votes proposals lists = record {
@@ -106,3 +106,18 @@ holds_confirm v k people calls requests votes proposals lists = record {
   proposals = proposals;
   lists = lists;
 }
+
+-- the same of a command that is this Confirm
+module _ (v : View) (k : ℕ) (c : Command) (is : c ≡ command.Confirm k) where
+  pub shows_as : (t : Tables) → NamesAll t → v.stamp ≡ t.desk.stamp → v.sizes.calls ≡ length t.calls
+      → ((table : LimitedTable) → IsTrue (may_put c table) → size_in v.sizes table ≡ rows_in t table) → v.people.items ≡ [] → v.calls.items ≡ []
+      → ShowsProposal v.proposals.items t (proposal_named c) → ShowsLists v.lists t (keys_with c (λ n. find (is_proposal_row n) t.proposals)) → Shows v t (to_confirm k)
+  shows_as t all stamp count sizes nobody no_call proposal lists =
+      shows_confirm v t k all stamp count (subst (λ (x : Command). (table : LimitedTable) → IsTrue (may_put x table) → size_in v.sizes table ≡ rows_in t table) is sizes) nobody no_call
+      (subst (λ x. ShowsProposal v.proposals.items t (proposal_named x)) is proposal) (subst (λ x. ShowsLists v.lists t (keys_with x (λ n. find (is_proposal_row n) t.proposals))) is lists)
+
+  pub holds_as : v.people.items ≡ [] → v.calls.items ≡ [] → v.requests.items ≡ [] → v.votes.items ≡ [] → All (λ r. proposal_named c ≡ Some r.number) v.proposals.items
+      → HoldsNoOther v.lists (keys_with c (λ n. find (is_proposal_row n) v.proposals.items)) → HoldsNoRowBeyond v (to_confirm k)
+  holds_as people calls requests votes proposals lists =
+      holds_confirm v k people calls requests votes (subst (λ x. All (λ (r : ProposalRow). proposal_named x ≡ Some r.number) v.proposals.items) is proposals)
+      (subst (λ x. HoldsNoOther v.lists (keys_with x (λ n. find (is_proposal_row n) v.proposals.items))) is lists)

@@ -11,6 +11,7 @@ ghost use Rattle.store_views.specs.sizes.Sizes.{AreRight};
 ghost use Rattle.store_sql.specs.States.{Changes, DoesInside, CommitsNothing, Sees, Spares, StaysInside};
 ghost use Rattle.store_schema.specs.Tables.{desk_layout};
 ghost use Rattle.store_reads.specs.Failures.{IsFailure};
+ghost use Rattle.desk_texts.specs.declared.command.Command.TheVariants.{Confirm};
 ghost use Rattle.store_views.specs.Confirming.{to_confirm};
 ghost use Rattle.store_views.specs.Named.{HoldsNoRowBeyond};
 ghost use Rattle.store_views.specs.Learning.{Learns};
@@ -115,14 +116,16 @@ pub fn view<S: Alter>(
     }
 }
 
-/// The rows and sizes for a Confirm of the proposal of this number, whoever gives it: no person and
-/// no earlier call is looked up.
+/// The rows and sizes for this Confirm of the proposal of this number, whoever gives it: no person
+/// and no earlier call is looked up.
 fn rows_to_confirm<S: Alter>(
     alloc: Global,
     tx: &mut Transaction<'_, S>,
     current: &Remembered,
     number: ProposalNumber,
+    command: &Command,
 ) -> Result<Seen, ReadFault>
+    requires { command.now ≡ Confirm number }
     ensures same_reference { tx.new.conn.ghost_name ≡ tx.old.conn.ghost_name }
     ensures value { DoesInside S.Store tx.old.conn.now tx.new.conn.now result
         (λ seen. ReadsTables (λ t. NamesAll t → IsCurrent current.now t
@@ -132,11 +135,10 @@ fn rows_to_confirm<S: Alter>(
     ensures kept { CommitsNothing S.Store tx.old.conn.now tx.new.conn.now }
     ensures survives { Spares S.Store tx.old.conn.now tx.new.conn.now }
 {
-    let command = Command::Confirm(number);
-    let proposals = proposals_of(alloc, tx, &command)?;
-    let proposal = named_row(&proposals, &command);
-    let lists = lists_asked(alloc, tx, &command, proposal)?;
-    let known = learn(tx, current.sizes, &command)?;
+    let proposals = proposals_of(alloc, tx, command)?;
+    let proposal = named_row(&proposals, command);
+    let lists = lists_asked(alloc, tx, command, proposal)?;
+    let known = learn(tx, current.sizes, command)?;
     let view = View {
         stamp: current.stamp,
         sizes: known.sizes(),
@@ -181,7 +183,8 @@ pub fn view_to_confirm<S: Alter>(
 {
     minutes_are_readable();
     stamps_are_above_none();
-    match rows_to_confirm(alloc, tx, remembered, number) {
+    let command = Command::Confirm(number);
+    match rows_to_confirm(alloc, tx, remembered, number, &command) {
         Ok(seen) => {
             remembered.sizes = seen.sizes;
             Ok(seen.view)

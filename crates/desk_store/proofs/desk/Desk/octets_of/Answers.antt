@@ -1,4 +1,4 @@
-use Rattle.std.proofs.Common.{◌≡◌, ◌≢◌, Err, ap, rules}
+use Rattle.std.proofs.Common.{◌≡◌, Err, ap}
 use Rattle.desk_bytes.specs.declared.refusal.Refusal.TheVariants as refusals
 use Rattle.desk_store.proofs.MemoryLemmas.{memory_named, memory_other, memory_reopen}
 use Rattle.desk_store.proofs.desk.Desk.octets_of.Goals as goal

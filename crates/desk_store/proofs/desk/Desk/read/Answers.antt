@@ -1,4 +1,4 @@
-use Rattle.std.proofs.Common.{◌⊎◌, inl, inr}
+use Rattle.std.proofs.Common.{inl, inr}
 use Rattle.desk_exports.specs.Readings.{IsShownTo}
 use Rattle.desk_store.proofs.ReadingLemmas.{gives_for, refuses_for, shut_for}
 use Rattle.desk_store.proofs.desk.Desk.read.Goals as goal

@@ -2,7 +2,7 @@ use Rattle.std.proofs.Common.{◌∙◌, Ok, ap, inr}
 use Rattle.desk_exports.specs.declared.reading.Reading.TheVariants as read
 use Rattle.store_reads.specs.Failures.{IsFailure}
 use Rattle.desk_store.specs.Showing.{IsReadingRefusal, shown_export}
-use Rattle.desk_store.proofs.ReadingLemmas.{only_failures, reads_err, reads_more, reads_ok}
+use Rattle.desk_store.proofs.ReadingLemmas.{only_failures, reads_err}
 use Rattle.desk_store.proofs.desk.Desk.show_export.Goals as goal
 
 pub returns-in-Ok-clause-shown : goal.returns-in-Ok-clause-shown
@@ -12,13 +12,6 @@ returns-in-Ok-clause-shown g c clean owner cs was =
 pub returns-in-Err-clause-refused : goal.returns-in-Err-clause-refused
 returns-in-Err-clause-refused g c clean no_memory no_store owner cs was =
     absurd (only_failures c.args.self.now.needs_reopening c.in-Err.refusal was.usable c.in-Err.ensures.reads.named no_memory no_store)
-
-pub returns-in-Ok-clause-reads : goal.returns-in-Ok-clause-reads
-returns-in-Ok-clause-reads g c =
-    let old = c.args.self.now in
-    let new = c.octets_of.new.self in
-    reads_ok g.S.Store (IsReadingRefusal read.Dbx) old new c.in-Ok.bytes _
-    (reads_more g.S.Store IsFailure old new (IsReadingRefusal read.Dbx) c.in-Ok.bytes c.in-Ok.ensures.reads)
 
 pub returns-in-Err-clause-reads : goal.returns-in-Err-clause-reads
 returns-in-Err-clause-reads g c =

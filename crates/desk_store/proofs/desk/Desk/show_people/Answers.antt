@@ -1,29 +1,8 @@
-use Rattle.std.proofs.Common.{◌≡◌, ◌∙◌, Ok, Err, ap, map, refl}
-use Rattle.desk_history.specs.PeopleShown.{ShowsPeople, people_for}
-use Rattle.desk_exports.specs.Readings as told
 use Rattle.desk_exports.specs.declared.reading.Reading.TheVariants as read
-use Rattle.desk_exports.specs.declared.shown.Shown.TheVariants as shown
 use Rattle.desk_store.specs.Showing.{IsReadingRefusal}
-use Rattle.desk_store.proofs.ReadingLemmas.{as_given, as_refused, of_reads, reads_err, reads_ok}
+use Rattle.desk_store.proofs.ReadingLemmas.{reads_refused}
 use Rattle.desk_store.proofs.desk.Desk.show_people.Goals as goal
-
-pub returns-in-Ok-clause-shown : goal.returns-in-Ok-clause-shown
-returns-in-Ok-clause-shown g c clean owner cs was =
-    as_given (people_for cs c.args.caller.now) (λ ps s. ShowsPeople ps s.items) (told.GivesPeople g.L.RequestList.holds) c.in-Ok.people _ (λ ps h. (c.in-Ok.people.items, h, ap shown.People c.new.ensures)) (c.in-Ok.ensures.shown clean owner cs was)
-
-pub returns-in-Err-clause-refused : goal.returns-in-Err-clause-refused
-returns-in-Err-clause-refused g c clean no_memory no_store owner cs was =
-    as_refused (people_for cs c.args.caller.now) (told.GivesPeople g.L.RequestList.holds) c.in-Err.refusal (c.in-Err.ensures.refused clean no_memory no_store owner cs was)
-
-pub returns-in-Ok-clause-reads : goal.returns-in-Ok-clause-reads
-returns-in-Ok-clause-reads g c =
-    let old = c.args.self.now in
-    let new = c.people.new.self in
-    reads_ok g.S.Store (IsReadingRefusal read.People) old new c.in-Ok.people _ (of_reads g.S.Store (IsReadingRefusal read.People) old new (Ok c.in-Ok.people) c.in-Ok.ensures.reads)
 
 pub returns-in-Err-clause-reads : goal.returns-in-Err-clause-reads
 returns-in-Err-clause-reads g c =
-    let old = c.args.self.now in
-    let new = c.people.new.self in
-    reads_err g.S.Store (IsReadingRefusal read.People) old new (IsReadingRefusal read.People) c.in-Err.refusal (λ is. is)
-    (of_reads g.S.Store (IsReadingRefusal read.People) old new (Err c.in-Err.refusal) c.in-Err.ensures.reads)
+    reads_refused g.S.Store (IsReadingRefusal read.People) c.args.self.now c.people.new.self c.in-Err.refusal c.in-Err.ensures.reads

@@ -1,21 +1,14 @@
-use Rattle.std.proofs.Common.{Ok, Err, inr}
+use Rattle.std.proofs.Common.{Err, inr}
 use Rattle.desk_exports.specs.declared.reading.Reading.TheVariants as read
 use Rattle.store_reads.specs.Failures.{IsFailure}
 use Rattle.desk_store.specs.Showing.{IsReadingRefusal}
-use Rattle.desk_store.proofs.ReadingLemmas.{of_reads, only_failures, reads_err, reads_more, reads_ok}
+use Rattle.desk_store.proofs.ReadingLemmas.{of_reads, only_failures, reads_err}
 use Rattle.desk_store.proofs.desk.Desk.show_report.Goals as goal
 
 pub returns-in-Err-clause-refused : goal.returns-in-Err-clause-refused
 returns-in-Err-clause-refused g c clean no_memory no_store owner cs was =
     let it = of_reads g.S.Store IsFailure c.args.self.now c.report.new.self (Err c.in-Err.refusal) c.in-Err.ensures.reads in
     absurd (only_failures c.args.self.now.needs_reopening c.in-Err.refusal was.usable it.named no_memory no_store)
-
-pub returns-in-Ok-clause-reads : goal.returns-in-Ok-clause-reads
-returns-in-Ok-clause-reads g c =
-    let old = c.args.self.now in
-    let new = c.report.new.self in
-    reads_ok g.S.Store (IsReadingRefusal read.Report) old new c.in-Ok.text _
-    (reads_more g.S.Store IsFailure old new (IsReadingRefusal read.Report) c.in-Ok.text (of_reads g.S.Store IsFailure old new (Ok c.in-Ok.text) c.in-Ok.ensures.reads))
 
 pub returns-in-Err-clause-reads : goal.returns-in-Err-clause-reads
 returns-in-Err-clause-reads g c =

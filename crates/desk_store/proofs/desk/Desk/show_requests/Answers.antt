@@ -1,29 +1,8 @@
-use Rattle.std.proofs.Common.{Ok, Err, refl}
-use Rattle.desk_history.specs.Shown.{requests_for}
-use Rattle.desk_exports.specs.Readings as told
 use Rattle.desk_exports.specs.declared.reading.Reading.TheVariants as read
-use Rattle.desk_exports.specs.declared.shown.Shown.TheVariants as shown
 use Rattle.desk_store.specs.Showing.{IsReadingRefusal}
-use Rattle.desk_store.proofs.ReadingLemmas.{as_given, as_refused, of_reads, reads_err, reads_ok}
+use Rattle.desk_store.proofs.ReadingLemmas.{reads_refused}
 use Rattle.desk_store.proofs.desk.Desk.show_requests.Goals as goal
-
-pub returns-in-Ok-clause-shown : goal.returns-in-Ok-clause-shown
-returns-in-Ok-clause-shown g c clean owner cs was =
-    as_given (requests_for cs c.args.caller.now) (told.HoldsShown g.L.RequestList.holds) (told.GivesRequests g.L.RequestList.holds) c.in-Ok.requests _ (λ ws h. (c.in-Ok.requests, h, refl)) (c.in-Ok.ensures.shown clean owner cs was)
-
-pub returns-in-Err-clause-refused : goal.returns-in-Err-clause-refused
-returns-in-Err-clause-refused g c clean no_memory no_store owner cs was =
-    as_refused (requests_for cs c.args.caller.now) (told.GivesRequests g.L.RequestList.holds) c.in-Err.refusal (c.in-Err.ensures.refused clean no_memory no_store owner cs was)
-
-pub returns-in-Ok-clause-reads : goal.returns-in-Ok-clause-reads
-returns-in-Ok-clause-reads g c =
-    let old = c.args.self.now in
-    let new = c.requests_of.new.self in
-    reads_ok g.S.Store (IsReadingRefusal read.Requests) old new c.in-Ok.requests _ (of_reads g.S.Store (IsReadingRefusal read.Requests) old new (Ok c.in-Ok.requests) c.in-Ok.ensures.reads)
 
 pub returns-in-Err-clause-reads : goal.returns-in-Err-clause-reads
 returns-in-Err-clause-reads g c =
-    let old = c.args.self.now in
-    let new = c.requests_of.new.self in
-    reads_err g.S.Store (IsReadingRefusal read.Requests) old new (IsReadingRefusal read.Requests) c.in-Err.refusal (λ is. is)
-    (of_reads g.S.Store (IsReadingRefusal read.Requests) old new (Err c.in-Err.refusal) c.in-Err.ensures.reads)
+    reads_refused g.S.Store (IsReadingRefusal read.Requests) c.args.self.now c.requests_of.new.self c.in-Err.refusal c.in-Err.ensures.reads
