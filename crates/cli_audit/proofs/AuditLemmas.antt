@@ -9,15 +9,19 @@ use Rattle.std.proofs.lemmas.Option.{same_Some}
 use Rattle.memory_disk.proofs.CleanLemmas.{memory_is_clean}
 use Rattle.memory_disk.specs.Disks.{MemoryStore, over_memory}
 use Rattle.desk_audit.specs.Audits.{HasFollowed, IsWrongAt}
+use Rattle.desk_audit.specs.Faults.{IsCausedInMemory}
+use Rattle.desk_audit.specs.declared.lines.LineWatch.{LineWatch}
 use Rattle.desk_audit.specs.declared.auditing.AuditFault.{AuditFault}
 use Rattle.desk_audit.specs.declared.auditing.AuditFault.TheVariants.{Device, Line}
 use Rattle.desk_bytes.specs.Output.{AppendsBeginning}
 use Rattle.desk_bytes.specs.declared.refusal.Refusal.{Refusal}
+use Rattle.desk_bytes.specs.declared.refusal.Refusal.TheVariants as refusals
 use Rattle.desk_exports.specs.declared.export.Export.{Export}
 use Rattle.desk_store.specs.declared.desk.Desk.{Desk}
+use Rattle.cli_lines.specs.Faults.{IsRow, row_of}
 use Rattle.cli_lines.specs.declared.fault.Fault.{Fault}
 use Rattle.cli_audit.specs.Audits.{AreNoMinutes, Audits, HasWritten, WritesCounted, WritesLast, audited}
-use Rattle.cli_audit.specs.Faults.{of_audit, wrong_line}
+use Rattle.cli_audit.specs.Faults.{IsAuditRefusal, IsAuditRow, of_audit, wrong_line}
 
 -- ---- minutes that were followed
 
@@ -41,28 +45,28 @@ module _ (what : Option Export) (owner : List ℕ) (desk : Desk MemoryStore) (ca
       inr (record { desk = desk; calls = calls; followed = f; written = w.1 owner f.history f.shows f.count })
 
 -- a row without a place is no line's
-no_line : (r : Result Unit Fault) (P : ℕ → Type 0) → IfErr r (λ fault. fault.place ≡ None) → IfErr r (λ fault. (n : ℕ) → fault ≡ wrong_line n → P n)
-no_line (Ok u) P h = tt
-no_line (Err fault) P h = λ n is. let bad : None ≡ Some n = sym h ∙ ap (λ (f : Fault). f.place) is in absurd (cc)
+no_line : (r : Result Unit Fault) (P : ℕ → Type 0) (Q : Refusal → Type 0) → IfErr r (IsRow Q) → IfErr r (λ fault. (n : ℕ) → fault ≡ wrong_line n → P n)
+no_line (Ok u) P Q h = tt
+no_line (Err fault) P Q h = λ n is. let bad : None ≡ Some n = sym h.0 ∙ ap (λ (f : Fault). f.place) is in absurd (cc)
 
-no_place : (r : Result Unit Fault) → IfErr r (λ fault. fault.place ≡ None) → IfErr r (λ fault. (fault.place ≡ None) ⊎ ((n : ℕ) × (fault ≡ wrong_line n)))
-no_place (Ok u) h = tt
-no_place (Err fault) h = inl h
+no_place : (r : Result Unit Fault) (watch : LineWatch) → IfErr r (IsRow (IsAuditRefusal watch)) → IfErr r (IsAuditRow watch)
+no_place (Ok u) watch h = tt
+no_place (Err fault) watch h = inr h
 
 -- the end of an audit whose minutes were followed
-pub followed : (what : Option Export) (owner : List ℕ) (desk : Desk MemoryStore) (calls : ℕ) (known before after : Option (List ℕ)) (r : Result Unit Fault)
+pub followed : (what : Option Export) (owner : List ℕ) (desk : Desk MemoryStore) (calls : ℕ) (known before after : Option (List ℕ)) (watch : LineWatch) (r : Result Unit Fault)
     → IfSome known (λ given. HasFollowed over_memory desk owner calls (Some given) (Some []))
-    → WritesLast over_memory desk calls (audited what) before after r → IfErr r (λ fault. fault.place ≡ None)
-    → Audits what owner known before after r
-followed what owner desk calls known before after r f (left, w) h =
+    → WritesLast over_memory desk calls (audited what) before after r → IfErr r (IsRow (IsAuditRefusal watch))
+    → Audits what owner known before after watch r
+followed what owner desk calls known before after watch r f (left, w) h =
     let wrote = w (memory_is_clean left.conn) in
     record {
       ok = whole what owner desk calls before after known r f wrote;
       stopped = part what owner desk calls before after known r f wrote;
-      placed = no_place r h;
-      wrong = no_line r (λ n. IfSome known (λ given. IsWrongAt given n)) h;
-      silent = no_line r (λ n. Keeps before after) h;
-      passes = no_line r (λ n. AreNoMinutes known) h;
+      named = no_place r watch h;
+      wrong = no_line r (λ n. IfSome known (λ given. IsWrongAt given n)) (IsAuditRefusal watch) h;
+      silent = no_line r (λ n. Keeps before after) (IsAuditRefusal watch) h;
+      passes = no_line r (λ n. AreNoMinutes known) (IsAuditRefusal watch) h;
     }
 
 -- ---- minutes that weren't followed
@@ -72,32 +76,35 @@ line_of : (fault : AuditFault) (n : ℕ) → of_audit fault ≡ wrong_line n →
 line_of (Line m) n e = ap Line (same_Some m n (ap (λ (f : Fault). f.place) e))
 line_of (Device refusal) n e = let bad : None ≡ Some n = ap (λ (f : Fault). f.place) e in absurd (cc)
 
-place_of : (fault : AuditFault) → ((of_audit fault).place ≡ None) ⊎ ((n : ℕ) × (of_audit fault ≡ wrong_line n))
-place_of (Line n) = inr (n, refl)
-place_of (Device refusal) = inl refl
+row_of_cause : (watch : LineWatch) (fault : AuditFault) → IsCausedInMemory watch fault → IsAuditRow watch (of_audit fault)
+row_of_cause watch (Line n) caused = inl (n, refl)
+row_of_cause watch (Device refusal) caused = inr (refl, inl caused)
 
-pub stopped_by : (what : Option Export) (owner : List ℕ) (known before : Option (List ℕ)) (fault : AuditFault) (row : Fault) → row ≡ of_audit fault
-    → ((n : ℕ) → fault ≡ Line n → IfSome known (λ given. IsWrongAt given n)) → ((n : ℕ) → fault ≡ Line n → AreNoMinutes known)
-    → Audits what owner known before before (Err row)
-stopped_by what owner known before fault row is wrong passes = record {
+pub stopped_by : (what : Option Export) (owner : List ℕ) (known before : Option (List ℕ)) (watch : LineWatch) (fault : AuditFault) (row : Fault) → row ≡ of_audit fault
+    → ((n : ℕ) → fault ≡ Line n → IfSome known (λ given. IsWrongAt given n)) → ((n : ℕ) → fault ≡ Line n → AreNoMinutes known) → IsCausedInMemory watch fault
+    → Audits what owner known before before watch (Err row)
+stopped_by what owner known before watch fault row is wrong passes caused = record {
   ok = tt;
   stopped = inl (Keeps-refl before);
-  placed = rw is (place_of fault);
+  named = rw is (row_of_cause watch fault caused);
   wrong = λ n same. wrong n (line_of fault n (sym is ∙ same));
   silent = λ n same. Keeps-refl before;
   passes = λ n same. passes n (line_of fault n (sym is ∙ same));
 }
 
--- a device's fault, before anything was followed
-pub unread : (what : Option Export) (owner : List ℕ) (known before : Option (List ℕ)) (fault : Fault) → fault.place ≡ None → Audits what owner known before before (Err fault)
-unread what owner known before fault h = record {
-  ok = tt;
-  stopped = inl (Keeps-refl before);
-  placed = inl h;
-  wrong = no_line (Err fault) (λ n. IfSome known (λ given. IsWrongAt given n)) h;
-  silent = no_line (Err fault) (λ n. Keeps before before) h;
-  passes = no_line (Err fault) (λ n. AreNoMinutes known) h;
-}
+-- memory was refused, before anything was followed
+pub unread : (what : Option Export) (owner : List ℕ) (known before : Option (List ℕ)) (watch : LineWatch) (fault : Fault) → fault ≡ row_of refusals.NoMemory
+    → Audits what owner known before before watch (Err fault)
+unread what owner known before watch fault is =
+    let h : IsRow (IsAuditRefusal watch) fault = (ap (λ (f : Fault). f.place) is, inl (inl (ap (λ (f : Fault). f.refusal) is))) in
+    record {
+      ok = tt;
+      stopped = inl (Keeps-refl before);
+      named = inr h;
+      wrong = no_line (Err fault) (λ n. IfSome known (λ given. IsWrongAt given n)) (IsAuditRefusal watch) h;
+      silent = no_line (Err fault) (λ n. Keeps before before) (IsAuditRefusal watch) h;
+      passes = no_line (Err fault) (λ n. AreNoMinutes known) (IsAuditRefusal watch) h;
+    }
 
 -- ---- a reader with a buffer
 

@@ -16,7 +16,8 @@ use Rattle.desk_store.specs.Exports.{Writes, WritesBeginning}
 use Rattle.desk_store.specs.declared.desk.Desk.{Desk}
 use Rattle.desk_audit.specs.Audits.{HasFollowed, IsWrongAt}
 use Rattle.cli_lines.specs.declared.fault.Fault.{Fault}
-use Rattle.cli_audit.specs.Faults.{wrong_line}
+use Rattle.desk_audit.specs.declared.lines.LineWatch.{LineWatch}
+use Rattle.cli_audit.specs.Faults.{IsAuditRow, wrong_line}
 use Rattle.cli_audit.specs.Lines.{audit_lines}
 
 -- own: what an audit writes: the bytes of the export that is named, or else the lines
@@ -51,13 +52,13 @@ pub record HasWritten (what : Option Export) (owner given : List ℕ) (wrote : L
 abbrev pub AreNoMinutes : Option (List ℕ) → Type 0
 AreNoMinutes known = (cs : History) → IsHistory cs → known ≢ Some (minutes_text cs)
 
--- The end of an audit of these bytes, where they are known. Ok: all was followed and written. A
--- fault with a place is the first wrong line, and nothing was written; after any other fault
--- nothing, or of minutes that were followed a prefix.
-pub record Audits (what : Option Export) (owner : List ℕ) (known before after : Option (List ℕ)) (result : Result Unit Fault) : Type 0 where
+-- The end of an audit of these bytes, where they are known, under a watch. Ok: all was followed and
+-- written. A fault is the first wrong line, and nothing was written; or memory was refused, a read
+-- failed or a write did, and nothing was written, or of minutes that were followed a prefix.
+pub record Audits (what : Option Export) (owner : List ℕ) (known before after : Option (List ℕ)) (watch : LineWatch) (result : Result Unit Fault) : Type 0 where
   pub ok : OnOk result (IfSome known (λ given. HasWritten what owner given (Appends before after)))
   pub stopped : OnErr result (Keeps before after ⊎ IfSome known (λ given. HasWritten what owner given (AppendsBeginning before after)))
-  pub placed : IfErr result (λ fault. (fault.place ≡ None) ⊎ ((n : ℕ) × (fault ≡ wrong_line n)))
+  pub named : IfErr result (IsAuditRow watch)
   pub wrong : IfErr result (λ fault. (n : ℕ) → fault ≡ wrong_line n → IfSome known (λ given. IsWrongAt given n))
   pub silent : IfErr result (λ fault. (n : ℕ) → fault ≡ wrong_line n → Keeps before after)
   pub passes : IfErr result (λ fault. (n : ℕ) → fault ≡ wrong_line n → AreNoMinutes known)

@@ -5,10 +5,10 @@ ghost use Rattle.cli_lines.specs.Faults.{IsRow};
 ghost use Rattle.cli_audit.specs.Audits.{Audits};
 ghost use Rattle.cli_audit.specs.Faults.{IsUnopenedRefusal};
 
-use crate::fault::row;
+use crate::fault::{row, row_in_memory};
 use crate::writing::write_last;
 use cli_lines::{Buffered, Fault, open_file};
-use desk_audit::{Audited, audit};
+use desk_audit::{Audited, LineWatch, audit};
 use desk_bytes::{Guid, Refusal};
 use desk_exports::Export;
 use std::alloc::Global;
@@ -20,17 +20,21 @@ fn audit_reader<R: BufRead, W: Buffered>(
     alloc: Global,
     owner: &Guid,
     reader: &mut R,
+    watch: &mut LineWatch,
     what: Option<Export>,
     writer: &mut W,
 ) -> Result<(), Fault>
     ensures audited { Audits what owner.now (R.remaining reader.old)
-        (W.contents writer.old) (W.contents writer.new) result }
+        (W.contents writer.old) (W.contents writer.new) watch.new result }
     ensures flushed { OnOk result (W.flushed writer.new) }
 {
-    match audit(alloc, owner, reader) {
+    match audit(alloc, owner, reader, watch) {
         Ok(audited) => {
             let Audited { desk, calls } = audited;
-            write_last(desk, calls, what, writer)
+            match write_last(desk, calls, what, writer) {
+                Ok(()) => Ok(()),
+                Err(fault) => Err(row_in_memory(fault)),
+            }
         }
         Err(fault) => Err(row(fault)),
     }
@@ -41,20 +45,22 @@ fn audit_reader<R: BufRead, W: Buffered>(
 /// is named. Takes memory for the desk and for one line.
 ///
 /// Minute: the place is the first line that isn't what the rules give, or isn't whole; nothing is
-/// written. Read: a read failed. NoMemory: memory was refused. Write: a prefix may be written.
+/// written. Read: a read failed, or was interrupted. NoMemory: memory was refused. Write: a prefix
+/// may be written.
 pub fn audit_input<R: Read + Drop, W: Buffered>(
     alloc: Global,
     owner: &Guid,
     reader: R,
+    watch: &mut LineWatch,
     what: Option<Export>,
     writer: &mut W,
 ) -> Result<(), Fault>
     ensures audited { Audits what owner.now (R.remaining reader)
-        (W.contents writer.old) (W.contents writer.new) result }
+        (W.contents writer.old) (W.contents writer.new) watch.new result }
     ensures flushed { OnOk result (W.flushed writer.new) }
 {
     match BufReader::new(alloc, reader) {
-        Ok(mut reader) => audit_reader(alloc, owner, &mut reader, what, writer),
+        Ok(mut reader) => audit_reader(alloc, owner, &mut reader, watch, what, writer),
         Err(_) => Err(Fault::from(Refusal::NoMemory)),
     }
 }
@@ -66,17 +72,18 @@ pub fn audit_file<R: Files + AllocGlobal, W: Buffered>(
     rt: &R,
     owner: &Guid,
     path: &str,
+    watch: &mut LineWatch,
     what: Option<Export>,
     writer: &mut W,
 ) -> Result<(), Fault>
     ensures audited { (IsErrAnd result (IsRow IsUnopenedRefusal)
         × Keeps (W.contents writer.old) (W.contents writer.new))
         ⊎ ((file : R.File) × Audits what owner.now (R.File.remaining file)
-        (W.contents writer.old) (W.contents writer.new) result) }
+        (W.contents writer.old) (W.contents writer.new) watch.new result) }
     ensures flushed { OnOk result (W.flushed writer.new) }
 {
     match open_file(rt, path) {
-        Ok(file) => audit_input(rt.alloc(), owner, file, what, writer),
+        Ok(file) => audit_input(rt.alloc(), owner, file, watch, what, writer),
         Err(fault) => Err(fault),
     }
 }

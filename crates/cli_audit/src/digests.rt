@@ -1,10 +1,11 @@
 //! The digests of a desk's exports.
-ghost use Rattle.std.specs.Prelude.{◌≡◌, IfOk, OnOk, length};
+ghost use Rattle.std.specs.Prelude.{◌≡◌, IfErr, IfOk, OnOk, length};
 ghost use Rattle.sha2.specs.Sha256.{sha256};
 ghost use Rattle.sqlite.specs.Held.{state};
 ghost use Rattle.sqlite.specs.State.{HasCleanDisk};
 ghost use Rattle.desk_exports.specs.Exports.{exported};
 ghost use Rattle.desk_store.specs.Desks.{ForEachShown, KeepsDesk};
+ghost use Rattle.cli_commands.specs.Faults.{IsWritingRefusal};
 ghost use Rattle.cli_audit.specs.Lines.{told_of};
 
 use crate::hashing::Hashing;
@@ -25,19 +26,23 @@ fn digest_of<S: Alter + Drop>(desk: &mut Desk<S>, what: Export) -> Result<Digest
         → OnOk result (KeepsDesk S.Store desk.old desk.new) }
     ensures clean { HasCleanDisk (state S.Store desk.new.conn)
         → HasCleanDisk (state S.Store desk.old.conn) }
+    ensures named { IfErr result IsWritingRefusal }
 {
     let mut hashing = Hashing::new();
-    desk.export(what, &mut hashing)?;
-    Ok(hashing.digest())
+    match desk.export(what, &mut hashing) {
+        Ok(()) => Ok(hashing.digest()),
+        Err(refusal) => Err(refusal),
+    }
 }
 
 /// What an audit tells of the minutes of a desk, of so many calls. Takes memory for one row.
 ///
 /// `NoMemory`, `Store`, `Reopen`: as for `digest_of`.
 pub(crate) fn told<S: Alter + Drop>(desk: &mut Desk<S>, calls: u64) -> Result<Summary, Refusal>
-    ensures { HasCleanDisk (state S.Store desk.new.conn) → IfOk result (λ told.
+    ensures exact { HasCleanDisk (state S.Store desk.new.conn) → IfOk result (λ told.
         ForEachShown S.Store desk.old (λ owner cs. length cs ≡ calls
         → told ≡ told_of owner cs)) }
+    ensures named { IfErr result IsWritingRefusal }
 {
     let minutes = digest_of(desk, Export::Minutes)?;
     let dbx = digest_of(desk, Export::Dbx)?;

@@ -1,9 +1,12 @@
 //! The rows of the table of refusals for an audit.
 ghost use Rattle.std.specs.Prelude.{◌≡◌};
-ghost use Rattle.cli_audit.specs.Faults.{of_audit};
+ghost use Rattle.desk_audit.specs.declared.lines.LineWatch.{LineWatch};
+ghost use Rattle.cli_commands.specs.Faults.{IsWritingRefusal};
+ghost use Rattle.cli_lines.specs.Faults.{IsRow};
+ghost use Rattle.cli_audit.specs.Faults.{IsAuditRefusal, of_audit};
 
 use cli_lines::Fault;
-use desk_audit::AuditFault;
+use desk_audit::{AuditFault, in_memory};
 use desk_bytes::Refusal;
 
 /// The row for minutes that aren't those of a desk, or aren't followed.
@@ -16,5 +19,16 @@ pub(crate) fn row(fault: AuditFault) -> Fault
             place: Some(number),
         },
         AuditFault::Device(refusal) => Fault::from(refusal),
+    }
+}
+
+/// The row for an export of a desk in memory.
+pub(crate) fn row_in_memory(fault: Fault) -> Fault
+    ensures { IsRow IsWritingRefusal fault → (watch : LineWatch)
+        → IsRow (IsAuditRefusal watch) result }
+{
+    Fault {
+        refusal: in_memory(fault.refusal),
+        place: fault.place,
     }
 }

@@ -11,3 +11,4 @@ mod summary;
 mod writing;
 
 pub use auditing::{audit_file, audit_input};
+pub use desk_audit::LineWatch;

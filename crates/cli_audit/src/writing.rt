@@ -1,9 +1,11 @@
 //! What an audit writes of a desk that has followed minutes.
-ghost use Rattle.std.specs.Prelude.{◌≡◌, None, IfErr, OnErr, OnOk};
+ghost use Rattle.std.specs.Prelude.{◌≡◌, IfErr, OnErr, OnOk};
 ghost use Rattle.std.specs.Io.KnownBytes.{Appends};
 ghost use Rattle.sqlite.specs.Held.{state};
 ghost use Rattle.sqlite.specs.State.{HasCleanDisk};
 ghost use Rattle.desk_bytes.specs.Output.{AppendsBeginning};
+ghost use Rattle.cli_commands.specs.Faults.{IsWritingRefusal};
+ghost use Rattle.cli_lines.specs.Faults.{IsRow};
 ghost use Rattle.cli_audit.specs.Audits.{WritesCounted, WritesLast, audited};
 ghost use Rattle.cli_audit.specs.Lines.{audit_lines, told_lines};
 
@@ -22,7 +24,7 @@ fn say<W: Buffered>(told: &Summary, writer: &mut W) -> Result<(), Fault>
     ensures flushed { OnOk result (W.flushed writer.new) }
     ensures err { OnErr result (AppendsBeginning (W.contents writer.old) (W.contents writer.new)
         (told_lines told.now)) }
-    ensures placed { IfErr result (λ fault. fault.place ≡ None) }
+    ensures named { IfErr result (IsRow IsWritingRefusal) }
 {
     put_told(told, writer)?;
     writer.flush_all()?;
@@ -39,7 +41,7 @@ fn say_told<S: Alter + Drop, W: Buffered>(
         → WritesCounted S.Store desk.old calls audit_lines
         (W.contents writer.old) (W.contents writer.new) result }
     ensures flushed { OnOk result (W.flushed writer.new) }
-    ensures placed { IfErr result (λ fault. fault.place ≡ None) }
+    ensures named { IfErr result (IsRow IsWritingRefusal) }
 {
     match told(desk, calls) {
         Ok(told) => say(&told, writer),
@@ -58,7 +60,7 @@ fn write_audit<S: Alter + Drop, W: Buffered>(
         → WritesCounted S.Store desk.old calls (audited what)
         (W.contents writer.old) (W.contents writer.new) result }
     ensures flushed { OnOk result (W.flushed writer.new) }
-    ensures placed { IfErr result (λ fault. fault.place ≡ None) }
+    ensures named { IfErr result (IsRow IsWritingRefusal) }
 {
     match what {
         None => say_told(desk, calls, writer),
@@ -79,7 +81,7 @@ pub(crate) fn write_last<S: Alter + Drop, W: Buffered>(
     ensures written { WritesLast S.Store desk calls (audited what)
         (W.contents writer.old) (W.contents writer.new) result }
     ensures flushed { OnOk result (W.flushed writer.new) }
-    ensures placed { IfErr result (λ fault. fault.place ≡ None) }
+    ensures named { IfErr result (IsRow IsWritingRefusal) }
 {
     write_audit(&mut desk, calls, what, writer)
 }

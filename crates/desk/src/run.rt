@@ -1,5 +1,5 @@
 //! The work of each line of words.
-use cli_audit::{audit_file, audit_input};
+use cli_audit::{LineWatch, audit_file, audit_input};
 use cli_files::{
     add_person, export_from, foretell_from, judge_image, make_desk, read_file, read_image,
 };
@@ -93,11 +93,12 @@ fn run_audit(rt: &HostRuntime, words: AuditWords<'_>) -> Result<(), Stop> {
     } = words;
     let owner = owner_from(owner)?;
     let what = asked_export(export)?;
+    let mut watch = LineWatch::new();
     let mut out = buffered_writer(rt.alloc(), rt.stdout())?;
     if file == "-" {
-        audit_input(rt.alloc(), &owner, rt.stdin(), what, &mut out)?;
+        audit_input(rt.alloc(), &owner, rt.stdin(), &mut watch, what, &mut out)?;
     } else {
-        audit_file(rt, &owner, file, what, &mut out)?;
+        audit_file(rt, &owner, file, &mut watch, what, &mut out)?;
     }
     Ok(())
 }
