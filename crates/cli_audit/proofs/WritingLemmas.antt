@@ -1,5 +1,5 @@
 -- What was written of a desk of so many calls.
-use Rattle.std.proofs.Common.{◌≡◌, ℕ, List, length, Option, Result, Ok, Err, OnErr, OnOk, sym, ap}
+use Rattle.std.proofs.Common.{◌≡◌, ℕ, List, length, Option, Result, Ok, Err, OnErr, OnOk, ap}
 use Rattle.std.specs.Io.KnownBytes.{Appends, Keeps}
 use Rattle.sqlite.specs.Store.{Ghosts}
 use Rattle.std.proofs.KnownBytes.{Appends-kept, Appends-nil}
@@ -10,9 +10,8 @@ use Rattle.desk_store.specs.Desks.{ForEachShown}
 use Rattle.desk_store.specs.Exports.{Writes, WritesBeginning}
 use Rattle.desk_store.specs.declared.desk.Desk.{Desk}
 use Rattle.cli_lines.proofs.LineLemmas.{Appends-same, AppendsBeginning-either, AppendsBeginning-same}
-use Rattle.cli_lines.specs.declared.ending.Outcome.{Outcome}
 use Rattle.cli_lines.specs.declared.fault.Fault.{Fault}
-use Rattle.cli_audit.specs.Audits.{ForEachCounted, WritesCounted}
+use Rattle.cli_audit.specs.Audits.{WritesCounted}
 use Rattle.cli_audit.specs.Lines.{audit_lines, told_lines, told_of}
 use Rattle.cli_audit.specs.declared.summary.Summary.{Summary}
 

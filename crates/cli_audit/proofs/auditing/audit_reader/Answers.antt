@@ -1,6 +1,4 @@
-use Rattle.std.proofs.Common.{Ok, Err, subst}
-use Rattle.memory_disk.specs.Disks.{over_memory}
-use Rattle.cli_audit.specs.Audits.{WritesLast, audited}
+use Rattle.std.proofs.Common.{Ok, Err}
 use Rattle.cli_audit.proofs.AuditLemmas.{followed, stopped_by}
 use Rattle.cli_audit.proofs.auditing.audit_reader.Goals as goal
 
