@@ -11,9 +11,9 @@ ghost use Rattle.store_sql.specs.States.{DoesInside, CommitsNothing, Spares, Sta
 ghost use Rattle.desk_texts.specs.declared.caller.Caller.TheVariants as callers;
 
 use crate::reader::reader_of;
-use desk_exports::RequestList;
 use crate::showing::{is_shown_to, shown_of};
 use desk_bytes::Refusal;
+use desk_exports::RequestList;
 use desk_texts::{Person, PersonName, RequestNumber};
 use sqlite::{Alter, Transaction};
 use std::alloc::Global;

@@ -35,9 +35,9 @@ returns-clause-value g c clean inside =
           let known = e.tells t sees2 current.sizes in
           let told = c.sizes.ensures t command known c.in_ok-known.ensures.learnt.enough in
           let lists = subst (λ l. ShowsLists c.in_ok-lists.lists t l)
-              (keys_same command (option_copied c.named_row-proposal.result) (λ n. find (is_proposal_row n) t.proposals)
-              (λ n named. c.named_row-proposal.ensures n named ∙ (ap (λ l. find (is_proposal_row n) l) c.deref.ensures.value ∙ there n named)))
-              (d.tells t sees1) in
+          (keys_same command (option_copied c.named_row-proposal.result) (λ n. find (is_proposal_row n) t.proposals)
+          (λ n named. c.named_row-proposal.ensures n named ∙ (ap (λ l. find (is_proposal_row n) l) c.deref.ensures.value ∙ there n named)))
+          (d.tells t sees1) in
           (shows_as _ c.args.number command c.requires t all current.stamp told.calls told.sizes c.new.ensures.items c.new-2.ensures.items there lists, known);
     }
 
