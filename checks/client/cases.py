@@ -57,11 +57,10 @@ def imports_read(program: Program) -> int:
     revocations_of, stop = module("formats").revocations_of, module("faults").Stop
     for case in cases("imports"):
         name, path = case["name"], program.file("case", case["bytes"])
-        mine = "deskctl" in case.get("clients", ["deskctl"])
         try:
             found = revocations_of(path, None)
         except stop as fault:
-            if "refused" not in case or not re.search(WHY[case["refused"]] if mine else ".", str(fault)):
+            if "refused" not in case or not re.search(WHY[case["refused"]], str(fault)):
                 fail(f"{name}: {fault}")
             continue
         if "refused" in case:
