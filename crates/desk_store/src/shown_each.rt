@@ -24,6 +24,7 @@ use desk_exports::{Export, Octets, RequestList, Shown, ShownPeople, ShownProposa
 use desk_texts::{Caller, ProposalNumber, RequestNumber, Role};
 use sqlite::Alter;
 use store_counts::report_is_the_history;
+use store_requests::is_officer;
 
 /// The refusal of an export into memory: a vector takes each byte unless memory is refused.
 fn into_memory(refusal: Refusal) -> Refusal
@@ -231,9 +232,8 @@ impl<S: Alter + Drop> Desk<S> {
             → (IsReopened result ⊎ ((cs : History)
             → result ≡ told.report_to L.RequestList.holds role cs)) × (self.new ≡ self.old) }
     {
-        match role {
-            Role::Officer => {}
-            Role::Submitter | Role::Reviewer | Role::Signer => return Err(Refusal::NotYourRole),
+        if !is_officer(role) {
+            return Err(Refusal::NotYourRole);
         }
         match self.report() {
             Ok(text) => Ok(Shown::Report(Octets::new(text.into_bytes()))),

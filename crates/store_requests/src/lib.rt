@@ -16,7 +16,7 @@ mod whole_proposal;
 pub use all_people::people_of;
 pub use listing::requests_of;
 pub use minute_lines::minutes_from;
-pub use officer::officer_of;
+pub use officer::{is_officer, officer_of};
 pub use proposed::proposals_of;
 pub use showing::request;
 pub use whole_proposal::proposal_of;

@@ -14,7 +14,7 @@ use std::alloc::Global;
 use store_reads::{ReadFault, person_named};
 
 /// Whether the role is an officer's.
-fn is_officer(role: Role) -> bool
+pub fn is_officer(role: Role) -> bool
     ensures { result ≡ is_officer role }
 {
     match role {
