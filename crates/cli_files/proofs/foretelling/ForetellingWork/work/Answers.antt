@@ -4,10 +4,15 @@ use Rattle.cli_files.proofs.ServingLemmas.{foretelling_apart}
 use Rattle.cli_files.proofs.foretelling.ForetellingWork.work.Goals as goal
 
 pub returns-clause-did : goal.returns-clause-did
-returns-clause-did g c =
-    ((c.foretell-work.ensures.same, c.foretell-work.ensures.spares),
-    λ clean. (c.foretell-work.ensures.ok clean, c.foretell-work.ensures.exact clean,
-    c.foretell-work.ensures.beginning clean, c.foretell-work.ensures.refused clean))
+returns-clause-did g c = (
+  (c.foretell-work.ensures.same, c.foretell-work.ensures.spares),
+  λ clean. (
+    c.foretell-work.ensures.ok clean,
+    c.foretell-work.ensures.exact clean,
+    c.foretell-work.ensures.beginning clean,
+    c.foretell-work.ensures.refused clean,
+  ),
+)
 
 pub returns-clause-left : goal.returns-clause-left
 returns-clause-left g c = c.foretell-work.ensures.flushed

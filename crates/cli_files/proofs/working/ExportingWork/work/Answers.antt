@@ -6,9 +6,10 @@ use Rattle.cli_files.proofs.ServingLemmas.{writing_apart}
 use Rattle.cli_files.proofs.working.ExportingWork.work.Goals as goal
 
 pub returns-clause-did : goal.returns-clause-did
-returns-clause-did g c =
-    ((c.write_export-work.ensures.same, c.write_export-work.ensures.spares),
-    λ clean. (c.write_export-work.ensures.ok clean, c.write_export-work.ensures.beginning clean))
+returns-clause-did g c = (
+  (c.write_export-work.ensures.same, c.write_export-work.ensures.spares),
+  λ clean. (c.write_export-work.ensures.ok clean, c.write_export-work.ensures.beginning clean),
+)
 
 pub returns-clause-left : goal.returns-clause-left
 returns-clause-left g c = both_of (λ outcome. outcome ≡ Done) _ c.write_export-work.result c.write_export-work.ensures.done c.write_export-work.ensures.flushed

@@ -2,9 +2,11 @@ use Rattle.cli_files.proofs.ServingLemmas.{judging_apart}
 use Rattle.cli_files.proofs.working.JudgingWork.work.Goals as goal
 
 pub returns-clause-did : goal.returns-clause-did
-returns-clause-did g c =
-    ((c.judge_file-work.ensures.same, λ owner cs was. c.judge_file-work.ensures.spares),
-    c.judge_file-work.ensures.told, c.judge_file-work.ensures.stopped)
+returns-clause-did g c = (
+  (c.judge_file-work.ensures.same, λ owner cs was. c.judge_file-work.ensures.spares),
+  c.judge_file-work.ensures.told,
+  c.judge_file-work.ensures.stopped,
+)
 
 pub returns-clause-left : goal.returns-clause-left
 returns-clause-left g c = c.judge_file-work.ensures.flushed
