@@ -1,5 +1,3 @@
-use Rattle.std.proofs.Common.{inl, refl}
-use Rattle.std.proofs.KnownBytes.{Keeps-refl}
 use Rattle.http_net.specs.Faults.{IsAnsweringRefusal}
 use Rattle.cli_opening.specs.Faults.{IsOpeningRefusal}
 use Rattle.cli_opening.proofs.EndingLemmas.{either_row, first_keeps, unopened_keeps}

@@ -1,4 +1,3 @@
-use Rattle.std.proofs.Common.{inl, refl}
 use Rattle.http_net.specs.Faults.{IsServingRefusal}
 use Rattle.cli_opening.specs.Faults.{IsOpeningRefusal}
 use Rattle.cli_opening.proofs.EndingLemmas.{either_row, first_alone, unopened_alone}
