@@ -205,9 +205,8 @@ class Machine:
         self.keys = 0
         for folder in ("bin", "state", "publish", "etc/default", "etc/nginx/sites-enabled", "srv", "root", "home", "nginx", "examples", "tmp"):
             (room / folder).mkdir(parents=True)
-        self.program = str(room / "bin" / "desk")
-        shutil.copyfile(program, self.program)
-        Path(self.program).chmod(0o755)
+        self.program = program
+        (room / "bin" / "desk").symlink_to(program)
         for folder, mode, name in (("state", 0o700, DESK), ("publish", 0o755, PUBLISH), ("root", 0o700, ""), ("tmp", 0o1777, "")):
             self.owned(room / folder, name, mode)
         self.write_scripts()
@@ -570,10 +569,9 @@ DURING = {"full-desk": never_allowed, "restore": handed_over}
 AFTER = {"leaked-token": refused, "lost-officer": refused, "publishing": nobodys}
 
 
-def run_page(program: str, room: Path, name: str, users: Dict[str, int], repository: Path) -> Tuple[int, float]:
+def run_page(machine: Machine, name: str) -> Tuple[int, float]:
     begun = time.monotonic()
     found = page_of(name)
-    machine = Machine(program, room, users, repository)
     machine.make_desk()
     machine.start_proxy()
     try:
@@ -619,9 +617,13 @@ def main() -> None:
     if unknown:
         fail(f"pages or beginnings that lack the other: {', '.join(sorted(unknown))}")
     counts = {}
-    users, repository = accounts(Path(room)), reachable(Path(room))
+    users, repository, desk = accounts(Path(room)), reachable(Path(room)), Path(room) / "desk"
+    shutil.copyfile(program, desk)
+    desk.chmod(0o755)
+    # All programs are written before the first process begins: one that began meanwhile would have them open, and nobody could run them.
+    machines = {name: Machine(str(desk), Path(room) / name, users, repository) for name in names or BEFORE}
     with concurrent.futures.ThreadPoolExecutor(4) as lanes:
-        running = {lanes.submit(run_page, program, Path(room) / name, name, users, repository): name for name in names or BEFORE}
+        running = {lanes.submit(run_page, machine, name): name for name, machine in machines.items()}
         for done in concurrent.futures.as_completed(running):
             counts[running[done]], seconds = done.result()
             print(f"{running[done]}: {counts[running[done]]} commands in {seconds:.0f} s", flush=True)
