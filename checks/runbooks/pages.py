@@ -591,8 +591,8 @@ def run_page(machine: Machine, name: str) -> Tuple[int, float]:
 
 
 def pasted(program: str, room: Path) -> int:
-    """README's day, pasted into a shell as one block: it waits where it has to."""
-    day = (ROOT / "README.md").read_text().split("\n## A day at the desk\n", 1)[1].split("\n## ", 1)[0].split("\n")
+    """The day by curl, pasted into a shell as one block: it waits where it has to."""
+    day = (ROOT / "docs" / "FORMATS.md").read_text().split("\n## A day by curl\n", 1)[1].split("\n## ", 1)[0].split("\n")
     typed = [line[6:] for line in day if line.startswith(("    $ ", "    > "))]
     wanted = [line[4:] for line in day if re.match(r"    (?![$>] )", line)]
     room.mkdir()
@@ -606,7 +606,7 @@ def pasted(program: str, room: Path) -> int:
     held.let_go()
     got = [line for line in done.stdout.split("\n") if line]
     if got != wanted:
-        fail("README's day, pasted, in place of\n" + "\n".join(wanted) + "\ncame\n" + "\n".join(got) + "\n" + done.stderr)
+        fail("the day by curl, pasted, in place of\n" + "\n".join(wanted) + "\ncame\n" + "\n".join(got) + "\n" + done.stderr)
     return len(typed)
 
 
@@ -629,7 +629,7 @@ def main() -> None:
             print(f"{running[done]}: {counts[running[done]]} commands in {seconds:.0f} s", flush=True)
     lines = pasted(program, Path(room) / "pasted") if not names else 0
     print(f"{sum(counts.values())} commands of {len(counts)} runbooks, each with the lines that its page has, as "
-          f"{f'{len(users)} users' if users else 'one user'}; {lines} lines of README pasted")
+          f"{f'{len(users)} users' if users else 'one user'}; {lines} lines of the day by curl pasted")
 
 
 main()
