@@ -12,11 +12,11 @@
 #
 # SHIM is a folder with shim's source; without it apt-get fetches that of Debian's package. A boot
 # may take 400 seconds, the whole twenty minutes; with nothing beside it, it takes one or two. It
-# needs binutils, efitools, gcc, gnu-efi, libnss3-tools, make, openssl, osslsigncode, ovmf, pesign,
-# python3, qemu-system-x86 and sbsigntool; to fetch and build shim dpkg-dev, dos2unix and xxd.
+# needs binutils, dos2unix, efitools, gcc, gnu-efi, libnss3-tools, make, openssl, osslsigncode,
+# ovmf, pesign, python3, qemu-system-x86 and sbsigntool; to fetch shim dpkg-dev.
 set -eu
 . "$(dirname -- "$(readlink -f -- "$0")")/common.sh"
-needs as certutil gcc ld make objcopy openssl osslsigncode pesign pk12util python3 \
+needs as certutil dos2unix gcc ld make objcopy openssl osslsigncode pesign pk12util python3 \
     cert-to-efi-sig-list qemu-system-x86_64 sbsign sign-efi-sig-list
 ovmf=/usr/share/OVMF/OVMF_CODE_4M.secboot.fd
 for file in "$ovmf" /usr/share/ovmf/PkKek-1-snakeoil.key /usr/include/efi/efi.h; do
@@ -47,7 +47,7 @@ done
 
 # fetch: Debian's source of shim, by apt-get with lists of its own.
 fetch() {
-    needs apt-get dos2unix dpkg-source xxd
+    needs apt-get dpkg-source
     mkdir -p apt/lists/partial apt/cache/archives/partial apt/parts fetched
     codename=$(sed -n 's/^VERSION_CODENAME=//p' /etc/os-release)
     keys=/usr/share/keyrings/debian-archive-keyring.gpg

@@ -193,8 +193,8 @@ class Candidates:
         ), "revoke digest")
         self.add("elliptic", self.own("elliptic"))
         garbage = b"X" * 248
-        self.add("type-unknown", lambda data: with_table(data, (0xEF0, garbage)), "list digest")
-        self.add("type-garbage", lambda data: with_table(data, (2, garbage)), "list digest")
+        for name, kind in (("type-unknown", 0xEF0), ("type-garbage", PKCS7_ENTRY)):
+            self.add(name, lambda data, kind=kind: with_table(data, (kind, garbage)), "list digest")
         self.add("type-guid", lambda data: with_table(
             data, (GUID_ENTRY, PKCS7_GUID + self.entry(data, "listed"))
         ))

@@ -105,8 +105,8 @@ class Fields(NamedTuple):
 def fields(data: bytes) -> Fields:
     head = struct.unpack_from("<I", data, 0x3C)[0]
     optional = head + 24
-    count, size = (struct.unpack_from("<H", data, head + it)[0] for it in (6, 20))
-    assert isinstance(count, int) and isinstance(size, int)
+    count = struct.unpack_from("<H", data, head + 6)[0]
+    size = struct.unpack_from("<H", data, head + 20)[0]
     ends = optional + (112 if struct.unpack_from("<H", data, optional)[0] == 0x20B else 96)
     directories = struct.unpack_from("<I", data, ends - 4)[0]
     return Fields(optional, optional + size, count, ends + 32 if directories > 4 else 0)
