@@ -11,9 +11,9 @@
 # Firmware has to refuse a db with an elliptic certificate, and a dbx that is too long.
 #
 # SHIM is a folder with shim's source; without it apt-get fetches that of Debian's package. A boot
-# may take 400 seconds, the whole twenty minutes; with nothing beside it, it takes one or two. It
-# needs binutils, dos2unix, efitools, gcc, gnu-efi, libnss3-tools, make, openssl, osslsigncode,
-# ovmf, pesign, python3, qemu-system-x86 and sbsigntool; to fetch shim dpkg-dev.
+# may take ten minutes, the whole twenty; with nothing beside it, it takes one or two. It needs
+# binutils, dos2unix, efitools, gcc, gnu-efi, libnss3-tools, make, openssl, osslsigncode, ovmf,
+# pesign, python3, qemu-system-x86 and sbsigntool; to fetch shim dpkg-dev.
 set -eu
 . "$(dirname -- "$(readlink -f -- "$0")")/common.sh"
 needs as certutil dos2unix gcc ld make objcopy openssl osslsigncode pesign pk12util python3 \

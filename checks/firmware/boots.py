@@ -23,7 +23,7 @@ STATUS = {
     "0000000000000000": "loads", "8000000000000002": "invalid", "8000000000000003": "unsupported",
     "8000000000000009": "full", "800000000000000f": "denied", "800000000000001a": "violation",
 }
-SECONDS = 400  # of a boot, at most; on an idle machine it takes some ten
+SECONDS = 600  # of a boot, at most; on an idle machine it takes some ten
 
 
 def update(name: str, lists: bytes, path: str, stamp: str = "2026-11-28 12:00:00") -> None:
