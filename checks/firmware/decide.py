@@ -17,6 +17,9 @@ from desks import REVOKED, Exports, Program, decide, fail
 from keys import Keys, Tools, run
 from page import typed
 
+# (the folder of this module is in the path since `desks`)
+from desk import certificate_list, digest_list  # noqa: E402
+
 # What has to be typed of INTEROPERATION, besides shim's build.
 TITLES = (
     "The exports", "Updates for firmware", "Bodies for shim", "A signed level for shim",
@@ -179,6 +182,14 @@ def compare(found: List[Row]) -> int:
     return wrong
 
 
+def whole(keys: Keys, candidates: Candidates) -> None:
+    """dbx has all that was revoked: no decision tells of some entries, as by SHA-384 signatures."""
+    digests = sorted(candidates.revoked)
+    certificates = sorted(keys.tbs(name) for name in REVOKED)
+    if content("dbx.esl") != digest_list(digests) + certificate_list(certificates):
+        fail("dbx isn't what was revoked")
+
+
 def main() -> None:
     began = time.monotonic()
     keys = made_keys()
@@ -215,6 +226,7 @@ def main() -> None:
     wrong = compare(rows)
     if wrong:
         fail(f"{wrong} of {len(rows)} candidates aren't decided as decisions.tsv has them")
+    whole(keys, candidates)
     told(rows, time.monotonic() - began)
 
 
