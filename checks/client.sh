@@ -17,7 +17,7 @@
 #             what was shown
 #   signing   the job, the loop and the evening of client/README.md, as printed;
 #             a foreign signature that carries a listed certificate
-#   readme    README.md's day by curl and by deskctl, as printed: the same minutes but for keys
+#   readme    the days of README.md, by deskctl, and docs/FORMATS.md, by curl, as printed: the same minutes but for keys
 # Then deskctl and the check's own Python have the syntax of Python 3.9 and no finding of pyflakes3,
 # its modules have at most 500 lines of 100 columns and functions under 40 lines, as one file it has
 # the same bytes each time, and help, page and completions are written and read. deskctl isn't proved, and neither is what

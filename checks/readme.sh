@@ -1,8 +1,8 @@
 #!/bin/sh
-# The day at the desk in README.md, run as it is printed, with the built program or the named one:
-# readme.sh [PROGRAM]. The standard output of each command is compared with the lines below it. If
-# port 8080 is taken, the commands use another one, and the last line says so. Not part of `rt ci`:
-# it needs bash, curl, openssl and python3.
+# The day at the desk in README.md, by deskctl, and that by curl in docs/FORMATS.md, each run as it is
+# printed, with the built program or the named one: readme.sh [PROGRAM]. The standard output of each
+# command is compared with the lines below it. If port 8080 is taken, the commands use another one,
+# and the last line says so. Not part of `rt ci`: it needs bash, curl, openssl and python3.
 set -eu
 . "$(dirname -- "$(readlink -f -- "$0")")/common.sh"
 needs bash curl openssl python3
@@ -23,9 +23,10 @@ MARK = "-- that was all of it --"
 PROGRAM, ROOT = sys.argv[1:]
 
 
-def day(readme):
-    """The commands under `A day at the desk`, each with the lines that have to come of it."""
-    part = readme.split("\n## A day at the desk\n", 1)[1].split("\n## ", 1)[0]
+def day(page, title):
+    """The commands under a title of a page, each with the lines that have to come of it."""
+    with open(f"{ROOT}/{page}", encoding="utf-8") as text:
+        part = text.read().split(f"\n## {title}\n", 1)[1].split("\n## ", 1)[0]
     found = []
     for line in part.split("\n"):
         if line.startswith("    $ "):
@@ -81,9 +82,10 @@ def passes(commands, room, port):
     tree = f"{room}/tree"
     os.makedirs(tree)
     os.symlink(PROGRAM, f"{tree}/desk")
-    os.symlink(f"{ROOT}/examples", f"{tree}/examples")
+    for name in ("client", "examples"):
+        os.symlink(f"{ROOT}/{name}", f"{tree}/{name}")
     how = {"stdin": subprocess.PIPE, "stdout": subprocess.PIPE, "text": True, "bufsize": 1}
-    shell = subprocess.Popen(["bash"], cwd=tree, env={**os.environ, "TMPDIR": room}, start_new_session=True, **how)
+    shell = subprocess.Popen(["bash"], cwd=tree, env={**os.environ, "HOME": room, "TMPDIR": room}, start_new_session=True, **how)
     atexit.register(leave, shell)
     for command, wanted in commands:
         shell.stdin.write(f"{command.replace('8080', str(port))}\necho\necho '{MARK}'\n")
@@ -92,33 +94,37 @@ def passes(commands, room, port):
         for line in iter(shell.stdout.readline, MARK + "\n"):
             if not line:
                 sys.exit(f"checks/readme.sh: the shell ended at: {command}")
-            got.append(line.rstrip("\n"))
+            got.append(line.rstrip("\n").replace(f":{port}", ":8080"))
         got = [line for line in got if line]
         if got != wanted:
             sys.exit(f"checks/readme.sh: {command}\nin place of\n" + "\n".join(wanted) + "\ncame\n" + "\n".join(got))
         if command.endswith("&"):
             serves(room, port)
     shell.stdin.close()
-    if shell.wait() != 0 or server(room) is not None:
+    failed, until = shell.wait() != 0, time.monotonic() + 10
+    # (a server that was told to end takes a moment)
+    while server(room) is not None and time.monotonic() < until:
+        time.sleep(0.02)
+    if failed or server(room) is not None:
         sys.exit("checks/readme.sh: the shell failed, or serve goes on")
-    if sorted(os.listdir(tree)) != ["desk", "examples"]:
+    if sorted(os.listdir(tree)) != ["client", "desk", "examples"]:
         sys.exit(f"checks/readme.sh: the day leaves files in the repository: {os.listdir(tree)}")
 
 
 for number in (signal.SIGHUP, signal.SIGINT, signal.SIGTERM):
     signal.signal(number, lambda *_: sys.exit(1))
-with open(f"{ROOT}/README.md", encoding="utf-8") as text:
-    commands = day(text.read())
+days = [day("README.md", "A day at the desk"), day("docs/FORMATS.md", "A day by curl")]
 held = Held()
 for port in (8080, held.port):
     try:
-        passes(commands, f"{os.getcwd()}/day", port)
+        for commands in days:
+            passes(commands, f"{os.getcwd()}/day", port)
         break
     except PortIsTaken:
         continue
 else:
     sys.exit("checks/readme.sh: no port")
 instead = "" if port == 8080 else f"; at port {port}, since 8080 is taken"
-print(f"{len(commands)} commands, each with the lines that README.md has{instead}")
+print(f"{sum(map(len, days))} commands, each with the lines that README.md or docs/FORMATS.md has{instead}")
 PYTHON
 PYTHONPATH=$root/checks/requests within 600 python3 -B readme.py "$program" "$root"

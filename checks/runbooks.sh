@@ -9,7 +9,7 @@
 # nobody's own token is used for it. Scripts stand in for systemctl, journalctl and runuser, paths
 # of the system are folders here, and nginx has packaging/nginx.conf without its TLS. The full disk is
 # a file system in memory, so it needs root or user namespaces; and curl, efitools, nginx, openssl,
-# python3, setpriv, sqlite3, unshare and xxd. README's day is pasted as one block, too.
+# python3, setpriv, sqlite3, unshare and xxd. The day by curl in docs/FORMATS.md is pasted as one block, too.
 set -eu
 . "$(dirname -- "$(readlink -f -- "$0")")/common.sh"
 PATH=$PATH:/usr/sbin:/sbin

@@ -2,9 +2,11 @@
 # checks/wrong_bodies.sh [CRATE ..]: that the prover refuses each wrong body of these crates, or of
 # all: those of the gate (crates/CRATE/must-fail/) and those of the second tier
 # (checks/wrong_bodies/CRATE/). It works on a copy of the checkout and begins with what rt kept
-# there. One that is refused only because a proof file names what the edit took away shows nothing of
-# a contract, and counts as not refused. The last line is `N refused, M not`; the status is 1 if one
-# isn't refused or can't be applied.
+# there. A refusal only because a proof file names what the edit took away shows nothing of a
+# contract, and neither does one only by a limit of the prover, which gave no verdict: by rt's words
+# both count as not refused. The last lines are `L only by a lost name, P only by a limit of the
+# prover`, or that this rt tells no limit, and `N refused, M not`, where M includes these; the status
+# is 1 if one isn't refused or can't be applied.
 set -u
 . "$(dirname -- "$(readlink -f -- "$0")")/common.sh"
 needs rt
@@ -32,7 +34,15 @@ for crate in ${*:-$crates}; do
     [ "$count" = 0 ] || tried+=("$crate")
 done
 
+: > "$room/said"
 [ "${#tried[@]}" = 0 ] || (cd "$room" && rt must-fail "${tried[@]}" < /dev/null 2>&1) | tee "$room/said" | sed "s|$room/||g"
-refused=$(grep '^rt: must-fail .*: refused, as it must be' "$room/said" 2> /dev/null | grep -vc 'only because a proof file names')
+# said_so WORDS: of how many bodies rt says that they are refused, in these words too.
+said_so() { grep -c "^rt: must-fail .*: refused, as it must be$1" "$room/said"; }
+by_name=$(said_so '.*only because a proof file names')
+by_limit=$(said_so '.*only by a limit of the prover')
+refused=$(($(said_so '') - by_name - by_limit))
+limits="$by_limit only by a limit of the prover"
+grep -q 'only by a limit of the prover' "$(command -v rt)" || limits='this rt tells no limit of the prover from a refusal'
+echo "$by_name only by a lost name, $limits"
 echo "$refused refused, $((wanted - refused)) not"
 [ "$refused" = "$wanted" ]

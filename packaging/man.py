@@ -188,21 +188,16 @@ def section(file, title):
     return re.sub(r" \([^()]*\bdesk_\w+[^()]*\)", "", part)
 
 
-def audit():
-    """docs/AUDIT.md below its title, a subsection for each of its parts."""
-    with open(f"{ROOT}/docs/AUDIT.md", encoding="utf-8") as page:
-        first, *parts = page.read().split("\n", 1)[1].split("\n## ")
+def document(name):
+    """A page of docs/ below its title, a subsection for each of its parts; `both digests` stays in one line, as people search for it."""
+    with open(f"{ROOT}/docs/{name}.md", encoding="utf-8") as page:
+        text = page.read().replace("both digests", "both\u00a0digests")
+    first, *parts = text.split("\n", 1)[1].split("\n## ")
     found = roff(first)
     for part in parts:
         title, text = part.split("\n", 1)
         found += [f'.SS "{title}"'] + roff(text)
     return found
-
-
-def interoperation():
-    """docs/INTEROPERATION.md below its title; `both digests` stays in one line, where people search for it."""
-    with open(f"{ROOT}/docs/INTEROPERATION.md", encoding="utf-8") as page:
-        return page.read().split("\n", 1)[1].replace("both digests", "both\u00a0digests")
 
 
 def refusals():
@@ -300,10 +295,10 @@ def desk_page(said, date):
             ("A PROXY IN FRONT", roff(section("packaging/README.md", "A proxy in front"))),
             ("PEOPLE WITH CERTIFICATES", roff(section("packaging/README.md", "People with certificates"))),
             ("PUBLISHING", roff(section("packaging/README.md", "Publishing"))),
-            ("AUDITS", audit()),
+            ("AUDITS", document("AUDIT")),
             ("A DEMO", roff(section("packaging/README.md", "A demo"))),
             ("RUNBOOKS", roff(section("packaging/README.md", "Runbooks"))),
-            ("OTHER TOOLS", roff(interoperation())),
+            ("OTHER TOOLS", document("INTEROPERATION")),
             ("ENVIRONMENT", roff(ENVIRONMENT)),
             ("FILES", files),
             ("SEE ALSO", ["desk-http(7), systemctl(1), runuser(1), nginx(8)"]),

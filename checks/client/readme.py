@@ -1,5 +1,5 @@
-"""The day at the desk in README.md by curl and by deskctl, each as it is printed over a desk of its own: what is printed below the commands
-comes, and both leave the same minutes but for keys."""
+"""The day at the desk in README.md, by deskctl, and that by curl in docs/FORMATS.md, each as it is printed over a desk of its own: what is
+printed below the commands comes, and both leave the same minutes but for keys."""
 from __future__ import annotations
 
 import glob
@@ -11,18 +11,18 @@ from tools import ROOT, Program, fail, without_keys
 from desk import Held, end_with_parent
 
 
-def printed(title: str) -> Tuple[str, str]:
-    """What has to be typed below a title of README.md, and what comes of it."""
-    with open(os.path.join(ROOT, "README.md"), encoding="utf-8") as page:
-        part = page.read().split(f"\n## {title}\n", 1)[1].split("\n## ", 1)[0]
+def printed(page: str, title: str) -> Tuple[str, str]:
+    """What has to be typed below a title of a page, and what comes of it."""
+    with open(os.path.join(ROOT, page), encoding="utf-8") as text:
+        part = text.read().split(f"\n## {title}\n", 1)[1].split("\n## ", 1)[0]
     lines = [line[4:] for line in part.split("\n") if line.startswith("    ")]
     commands = [line[2:] for line in lines if line.startswith(("$ ", "> "))]
     return "\n".join(commands) + "\n", "".join(line + "\n" for line in lines if not line.startswith(("$ ", "> ")))
 
 
-def day(program: Program, title: str) -> List[Tuple[str, ...]]:
-    """The minutes that a day leaves. Its port is another one, since README's may be taken."""
-    typed, wanted = printed(title)
+def day(program: Program, page: str, title: str) -> List[Tuple[str, ...]]:
+    """The minutes that a day leaves. Its port is another one, since the page's may be taken."""
+    typed, wanted = printed(page, title)
     room = program.at(title.replace(" ", "-"))
     os.makedirs(room)
     for name, path in (("desk", program.path), ("examples", os.path.join(ROOT, "examples")), ("client", os.path.join(ROOT, "client"))):
@@ -34,15 +34,15 @@ def day(program: Program, title: str) -> List[Tuple[str, ...]]:
     )
     held.let_go()
     if ran.returncode or ran.stdout.replace("\n\n", "\n").replace(f":{held.port}", ":8080") != wanted:
-        fail(f"README, {title}: status {ran.returncode}, in place of\n{wanted}\ncame\n{ran.stdout}\n{ran.stderr}")
+        fail(f"{page}, {title}: status {ran.returncode}, in place of\n{wanted}\ncame\n{ran.stdout}\n{ran.stderr}")
     (desk,) = glob.glob(os.path.join(room, "tmp.*", "desk.db"))
     return without_keys(program.minutes(desk))
 
 
 def check(program: Program) -> str:
-    by_curl, by_deskctl = day(program, "A day at the desk"), day(program, "The same day by deskctl")
+    by_curl, by_deskctl = day(program, "docs/FORMATS.md", "A day by curl"), day(program, "README.md", "A day at the desk")
     if not by_curl or by_curl != by_deskctl:
-        fail(f"README's days leave other minutes: {by_curl} and {by_deskctl}")
+        fail(f"the days leave other minutes: {by_curl} and {by_deskctl}")
     return f"README's day by deskctl leaves the {len(by_curl)} commands of the one by curl"
 
 

@@ -205,9 +205,8 @@ class Machine:
         self.keys = 0
         for folder in ("bin", "state", "publish", "etc/default", "etc/nginx/sites-enabled", "srv", "root", "home", "nginx", "examples", "tmp"):
             (room / folder).mkdir(parents=True)
-        self.program = str(room / "bin" / "desk")
-        shutil.copyfile(program, self.program)
-        Path(self.program).chmod(0o755)
+        self.program = program
+        (room / "bin" / "desk").symlink_to(program)
         for folder, mode, name in (("state", 0o700, DESK), ("publish", 0o755, PUBLISH), ("root", 0o700, ""), ("tmp", 0o1777, "")):
             self.owned(room / folder, name, mode)
         self.write_scripts()
@@ -570,10 +569,9 @@ DURING = {"full-desk": never_allowed, "restore": handed_over}
 AFTER = {"leaked-token": refused, "lost-officer": refused, "publishing": nobodys}
 
 
-def run_page(program: str, room: Path, name: str, users: Dict[str, int], repository: Path) -> Tuple[int, float]:
+def run_page(machine: Machine, name: str) -> Tuple[int, float]:
     begun = time.monotonic()
     found = page_of(name)
-    machine = Machine(program, room, users, repository)
     machine.make_desk()
     machine.start_proxy()
     try:
@@ -593,8 +591,8 @@ def run_page(program: str, room: Path, name: str, users: Dict[str, int], reposit
 
 
 def pasted(program: str, room: Path) -> int:
-    """README's day, pasted into a shell as one block: it waits where it has to."""
-    day = (ROOT / "README.md").read_text().split("\n## A day at the desk\n", 1)[1].split("\n## ", 1)[0].split("\n")
+    """The day by curl, pasted into a shell as one block: it waits where it has to."""
+    day = (ROOT / "docs" / "FORMATS.md").read_text().split("\n## A day by curl\n", 1)[1].split("\n## ", 1)[0].split("\n")
     typed = [line[6:] for line in day if line.startswith(("    $ ", "    > "))]
     wanted = [line[4:] for line in day if re.match(r"    (?![$>] )", line)]
     room.mkdir()
@@ -608,7 +606,7 @@ def pasted(program: str, room: Path) -> int:
     held.let_go()
     got = [line for line in done.stdout.split("\n") if line]
     if got != wanted:
-        fail("README's day, pasted, in place of\n" + "\n".join(wanted) + "\ncame\n" + "\n".join(got) + "\n" + done.stderr)
+        fail("the day by curl, pasted, in place of\n" + "\n".join(wanted) + "\ncame\n" + "\n".join(got) + "\n" + done.stderr)
     return len(typed)
 
 
@@ -619,15 +617,19 @@ def main() -> None:
     if unknown:
         fail(f"pages or beginnings that lack the other: {', '.join(sorted(unknown))}")
     counts = {}
-    users, repository = accounts(Path(room)), reachable(Path(room))
+    users, repository, desk = accounts(Path(room)), reachable(Path(room)), Path(room) / "desk"
+    shutil.copyfile(program, desk)
+    desk.chmod(0o755)
+    # All programs are written before the first process begins: one that began meanwhile would have them open, and nobody could run them.
+    machines = {name: Machine(str(desk), Path(room) / name, users, repository) for name in names or BEFORE}
     with concurrent.futures.ThreadPoolExecutor(4) as lanes:
-        running = {lanes.submit(run_page, program, Path(room) / name, name, users, repository): name for name in names or BEFORE}
+        running = {lanes.submit(run_page, machine, name): name for name, machine in machines.items()}
         for done in concurrent.futures.as_completed(running):
             counts[running[done]], seconds = done.result()
             print(f"{running[done]}: {counts[running[done]]} commands in {seconds:.0f} s", flush=True)
     lines = pasted(program, Path(room) / "pasted") if not names else 0
     print(f"{sum(counts.values())} commands of {len(counts)} runbooks, each with the lines that its page has, as "
-          f"{f'{len(users)} users' if users else 'one user'}; {lines} lines of README pasted")
+          f"{f'{len(users)} users' if users else 'one user'}; {lines} lines of the day by curl pasted")
 
 
 main()

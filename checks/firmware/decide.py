@@ -1,0 +1,244 @@
+"""decide.py PROGRAM: makes the candidates and a desk, boots firmware and shim, and compares what
+they decide with decisions.tsv; see ../firmware.sh. The working directory has the code of loader and
+candidates, and shim's source in `shim`."""
+from __future__ import annotations
+
+import hashlib
+import os
+import shutil
+import sys
+import time
+from concurrent.futures import ThreadPoolExecutor
+from typing import Dict, List, NamedTuple
+
+from boots import AUTHENTICATED, KEK, KEK_KEY, OWNER, Boot, update
+from candidates import Candidates
+from desks import REVOKED, Exports, Program, decide, fail
+from keys import Keys, Tools, run
+from page import typed
+
+# (the folder of this module is in the path since `desks`)
+from desk import certificate_list, digest_list  # noqa: E402
+
+# What has to be typed of INTEROPERATION, besides shim's build.
+TITLES = (
+    "The exports", "Updates for firmware", "Bodies for shim", "A signed level for shim",
+    "Debian's own list",
+)
+# Digests of a dbx that this firmware's variables have room for; one more is refused.
+ROOM = 702
+TABLE = os.path.join(os.path.dirname(os.path.realpath(__file__)), "decisions.tsv")
+
+
+class Row(NamedTuple):
+    """A row of decisions.tsv."""
+
+    name: str
+    what: str
+    desk: str
+    db: str  # firmware's decision with db alone
+    firmware: str  # with db and dbx
+    shim: str  # with dbx as vendor_dbx
+    bodies: str  # with the bodies of revoked certificates too
+    why_firmware: str  # why firmware doesn't decide as the desk does
+    why_shim: str
+
+
+def content(path: str) -> bytes:
+    with open(path, "rb") as file:
+        return file.read()
+
+
+def keep(path: str, data: bytes) -> None:
+    with open(path, "wb") as file:
+        file.write(data)
+
+
+def made_keys() -> Keys:
+    """And the files that the page names."""
+    keys = Keys()
+    run("openssl", "rsa", "-in", KEK_KEY, "-passin", "pass:snakeoil", "-out", "snakeoil.key")
+    shutil.copyfile(KEK, "snakeoil.pem")
+    keys.read("snakeoil")
+    os.makedirs("revoked")
+    for name in REVOKED:
+        os.symlink(f"../{name}.pem", f"revoked/{name}.pem")
+    for name, of in (("KEK", "snakeoil"), ("signer", "listed")):
+        for kind in ("key", "pem"):
+            os.symlink(f"{of}.{kind}", f"{name}.{kind}")
+    return keys
+
+
+# ---- firmware
+
+
+def firmware_volume(
+    candidates: Candidates, exports: Exports, program: Program, tools: Tools
+) -> Boot:
+    """Each candidate is loaded without the desk's lists and with db alone, and tried with both."""
+    boot = Boot("firmware", candidates, tools)
+    for name in ("db", "dbx"):
+        boot.write(f"{name}.auth", content(f"{name}.auth"))
+    update("db", exports.elliptic, "firmware/elliptic.auth", "2030-01-01 00:00:00")
+    for count, stamp in ((ROOM, "2030-01-01 00:00:00"), (ROOM + 1, "2030-01-02 00:00:00")):
+        lines = "".join(f"{hashlib.sha256(str(it).encode()).hexdigest()}\n" for it in range(count))
+        packed = program.gives("pack", OWNER, given=lines.encode())
+        update("dbx", packed, f"firmware/{count}.auth", stamp)
+    boot.steps("plan", [
+        "get SecureBoot g", *(f"load none:{name} {path}" for name, path in boot.names),
+        f"set db d {AUTHENTICATED} /db.auth",
+        *(f"load db:{name} {path}" for name, path in boot.names),
+        f"set dbx d {AUTHENTICATED} /dbx.auth", "get db d", "get dbx d",
+        *(f"try {name} {path}" for name, path in boot.names),
+        f"set db d {AUTHENTICATED} /elliptic.auth", f"set dbx d {AUTHENTICATED} /{ROOM}.auth",
+        f"set dbx d {AUTHENTICATED} /{ROOM + 1}.auth",
+    ])
+    return boot
+
+
+def firmware_decided(boot: Boot, candidates: Candidates) -> None:
+    """What a table of candidates doesn't have: the variables, the control, the limits."""
+    if boot.variable("SecureBoot") != b"\1":
+        fail("Secure Boot is off")
+    for name in ("db", "dbx"):
+        boot.sets(name, f"/{name}.auth")
+        if boot.variable(name) != content(f"{name}.esl"):
+            fail(f"{name} in firmware isn't the desk's")
+    names = [it.name for it in candidates.all]
+    passed = [name for name in names if boot.status("load", f"none:{name}") != "denied"]
+    if passed:
+        fail(f"firmware loads without the desk's lists: {passed}")
+    boot.sets("dbx", f"/{ROOM}.auth")
+    for name, path in (("db", "/elliptic.auth"), ("dbx", f"/{ROOM + 1}.auth")):
+        if any(it.rest == path and it.status == "0" * 16 for it in boot.lines):
+            fail(f"firmware takes {path}")
+
+
+# ---- shim
+
+
+def build_shim(program: Program) -> None:
+    """`shimx64.efi` in shim's folder, with `vendor_dbx.esl`; by Debian's flags, without NX."""
+    for name in ("cert.o", "shimx64.so", "shimx64.efi"):
+        if os.path.exists(f"shim/{name}"):
+            os.remove(f"shim/{name}")
+    flags = f"-j{os.cpu_count()} POST_PROCESS_PE_FLAGS=-N"
+    typed("shim's vendor_dbx", program.path, MAKEFLAGS=flags)
+
+
+def shim_volume(name: str, candidates: Candidates, tools: Tools) -> Boot:
+    """Firmware has db and no dbx; the loader begins shim, which begins it as its second stage."""
+    boot = Boot(name, candidates, tools)
+    boot.write("EFI/check/grubx64.efi", tools.sbsign(boot.loader, "listed"))
+    boot.write("EFI/check/shimx64.efi", tools.sbsign(content("shim/shimx64.efi"), "listed"))
+    boot.write("db.auth", content("db.auth"))
+    level = []
+    if name == "shim":
+        boot.write("level.csv", content("level.csv"))
+        level = ["set SbatLevel s 3 /level.csv"]
+    else:
+        boot.write("EFI/check/revocations_sbat.efi", content("revocations_sbat.efi"))
+    start = "try shim /EFI/check/shimx64.efi"
+    boot.steps("plan", [f"set db d {AUTHENTICATED} /db.auth", *level, start])
+    steps = [f"{word} {it} {path}" for it, path in boot.names for word in ("verify", "try")]
+    boot.steps("shimplan", ["get SbatLevel s", *steps])
+    return boot
+
+
+def shim_decision(boot: Boot, name: str) -> str:
+    """By Verify and by LoadImage; they are alike, or both are told."""
+    verified, tried = boot.status("verify", name), boot.decision(name)
+    alike = verified == ("loads" if tried == "runs" else tried)
+    return tried if alike else f"{verified} by Verify, {tried}"
+
+
+# ---- the table
+
+
+def table() -> List[Row]:
+    with open(TABLE, encoding="utf-8") as file:
+        return [Row(*line.rstrip("\n").split("\t")) for line in file if not line.startswith("#")]
+
+
+def differs(verdict: str, *decisions: str) -> bool:
+    """Whether one of them doesn't go with the desk's verdict."""
+    return any((it in ("runs", "loads")) != (verdict == "allowed") for it in decisions)
+
+
+def compare(found: List[Row]) -> int:
+    """How many rows aren't the table's, or lack a cause; each is printed as it would be there."""
+    wanted = {it.name: it for it in table()}
+    wrong = 0
+    for row in found:
+        was = wanted.pop(row.name, Row(row.name, *[""] * 8))
+        row = row._replace(what=was.what, why_firmware=was.why_firmware, why_shim=was.why_shim)
+        causes = (bool(row.why_firmware), bool(row.why_shim))
+        due = (differs(row.desk, row.firmware), differs(row.desk, row.shim, row.bodies))
+        if row != was or causes != due:
+            wrong += 1
+            print("\t".join(was), "\t".join(row), sep="\n", end="\n\n", file=sys.stderr)
+    if wanted:
+        fail(f"the table has more rows: {list(wanted)}")
+    return wrong
+
+
+def whole(keys: Keys, candidates: Candidates) -> None:
+    """dbx has all that was revoked: no decision tells of some entries, as by SHA-384 signatures."""
+    digests = sorted(candidates.revoked)
+    certificates = sorted(keys.tbs(name) for name in REVOKED)
+    if content("dbx.esl") != digest_list(digests) + certificate_list(certificates):
+        fail("dbx isn't what was revoked")
+
+
+def main() -> None:
+    began = time.monotonic()
+    keys = made_keys()
+    tools = Tools()
+    candidates = Candidates(content("candidate.bin"), keys, tools)
+    program = Program(os.path.realpath(sys.argv[1]))
+    with program, ThreadPoolExecutor(3) as boots:
+        exports = decide(program, keys, candidates)
+        program.copied(exports.desk, os.path.abspath("desk.db"))
+        for title in TITLES:
+            typed(title, program.path, owner=OWNER)
+        firmware = firmware_volume(candidates, exports, program, tools)
+        running = [boots.submit(firmware.run)]
+        shims = []
+        for name, lists in (("bodies", "vendor_dbx.esl"), ("shim", "dbx.esl")):
+            if lists != "vendor_dbx.esl":
+                shutil.copyfile(lists, "vendor_dbx.esl")
+            build_shim(program)
+            shims.append(shim_volume(name, candidates, tools))
+            running.append(boots.submit(shims[-1].run))
+        for it in running:
+            it.result()
+    firmware_decided(firmware, candidates)
+    for it in shims:
+        if it.variable("SbatLevel").rstrip(b"\0") != content("level.csv").rstrip(b"\0"):
+            fail(f"the level of {it.folder}: {it.variable('SbatLevel')!r}")
+    rows = [
+        Row(
+            name, "", verdict, firmware.status("load", f"db:{name}"), firmware.decision(name),
+            shim_decision(shims[1], name), shim_decision(shims[0], name), "", "",
+        )
+        for name, verdict in exports.verdicts.items()
+    ]
+    wrong = compare(rows)
+    if wrong:
+        fail(f"{wrong} of {len(rows)} candidates aren't decided as decisions.tsv has them")
+    whole(keys, candidates)
+    told(rows, time.monotonic() - began)
+
+
+def told(rows: List[Row], seconds: float) -> None:
+    ways: Dict[str, int] = {
+        "firmware": sum(not differs(it.desk, it.firmware) for it in rows),
+        "shim": sum(not differs(it.desk, it.shim) for it in rows),
+        "shim with bodies": sum(not differs(it.desk, it.bodies) for it in rows),
+    }
+    said = ", ".join(f"{name} {count}" for name, count in ways.items())
+    print(f"{len(rows)} images decided as they have to be, in {seconds:.0f} s; as the desk: {said}")
+
+
+if __name__ == "__main__":
+    main()
