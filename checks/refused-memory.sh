@@ -12,11 +12,12 @@
 # that a refused run left must end as they do on the files that it found. The last line has how many
 # allocations of each were refused, and of how many.
 #
-# Each allocation of `pack`, `facts`, `list` and `audit` is refused, or where there are more than
-# 2,000 the first and the last thousand, and one in twenty between. Of the others the first and the
-# last hundred are refused, and between them one in STRIDE: 100 by default, which takes a minute or
-# two. 1 refuses each, but only one in a hundred of a long row of one size: of the 13,000 of a run
-# that opens a desk 8,000 are the store's pages, taken at once. 0 refuses each, without exception.
+# Each allocation of `pack`, `facts` and `list` is refused. Of `audit` each is, or where there are more
+# than 2,000 the first and the last thousand, and one in twenty between. Of the others the first and
+# the last hundred are refused, and between them one in STRIDE: 100 by default, which takes a minute
+# or two. 1 refuses each, of `audit` too, but only one in a hundred of a long row of one size: of the
+# 13,000 of a run that opens a desk 8,000 are the store's pages, taken at once. 0 refuses each,
+# without exception.
 # Requests over HTTP are in refused-requests.sh. Not part of `rt ci`: it needs python3, and a C
 # compiler for a malloc that refuses (refuse.c).
 set -eu

@@ -18,7 +18,9 @@ from desk import (
 PROGRAM, LIBRARY, ROOT, STRIDE = sys.argv[1], sys.argv[2], sys.argv[3], int(sys.argv[4])
 # Of more than this many allocations of one size in a row, which are the store's pages taken at once, the first, the last and one in LONG_ROW are refused.
 LONG_ROW = 100
-# Of a subcommand without a desk each is refused, or where there are more than 2,000 the first and the last MANY, and one in 20 between.
+# Of these subcommands each is refused.
+EACH = ("pack", "facts", "list")
+# Of an audit each is refused, or where there are more than 2,000 the first and the last MANY, and one in 20 between.
 MANY = 1_000
 # Set where a case fails: then the other cases end too.
 ENDING = threading.Event()
@@ -112,12 +114,12 @@ class Refusing:
         with open(self.sizes_file, encoding="ascii") as it:
             sizes = [int(line) for line in it]
         count = len(sizes)
-        if STRIDE > 1 and not self.case.desk and "DESK" not in self.case.words:
+        if STRIDE == 0 or self.case.words[0] in EACH:
+            return list(range(1, count + 1)), count
+        if STRIDE > 1 and self.case.words[0] == "audit":
             return [it for it in range(1, count + 1) if it <= MANY or it > count - MANY or it % 20 == 0], count
         if STRIDE > 1:
             return [it for it in range(1, count + 1) if it <= 100 or it > count - 100 or it % STRIDE == 0], count
-        if STRIDE == 0:
-            return list(range(1, count + 1)), count
         found, place = [], 0
         for _, row in itertools.groupby(sizes):
             length = len(list(row))
