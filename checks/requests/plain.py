@@ -44,7 +44,8 @@ def passes(program, base, day, steps):
 
 with Program(sys.argv[1]) as program:
     base = program.founded("base.db")
+    names = sys.argv[2:] or [*DAYS]
     with ThreadPoolExecutor(len(os.sched_getaffinity(0))) as pool:
-        longest_first = sorted(DAYS, key=lambda day: -len(DAYS[day]))
+        longest_first = sorted(names, key=lambda day: -len(DAYS[day]))
         compared = sum(pool.map(lambda day: passes(program, base, day, DAYS[day]), longest_first))
-    print(f"{compared} responses of {len(DAYS)} days, each as it has to be; the tables are the same over one server and by single runs")
+    print(f"{compared} responses of {len(names)} days, each as it has to be; the tables are the same over one server and by single runs")
