@@ -23,15 +23,17 @@ ask() {
         "$3" "$2" "${#4}" "$4" | "$program" answer "$1" | tail -n 1
 }
 
-# opened STATUS WORD..: the subcommand opens a copy of the file, which then is as it should be.
+# opened STATUS WORD..: the subcommand opens a copy of the file, which then has the dbx and the minutes
+# of before, with the line in the file `added` if there is one; and the next opening writes nothing.
+: > added
 opened() {
     wanted=$1 status=0
     shift
     cp first.db desk.db
-    "$@" > out 2> err < /dev/null || status=$?
+    "$@" > out 2> err || status=$?
     [ "$status" -eq "$wanted" ] || fail "$2: status $status, $(cat err)"
     cp desk.db after.db
-    "$program" minutes desk.db | cmp -s - "$kept/minutes" || fail "$2: other minutes"
+    "$program" minutes desk.db | cmp -s - <(cat "$kept/minutes" added) || fail "$2: other minutes"
     "$program" dbx desk.db | cmp -s - "$kept/dbx.esl" || fail "$2: another dbx"
     cmp -s desk.db after.db || fail "$2: the next opening wrote"
     openings=$((openings + 1))
@@ -58,14 +60,14 @@ level_of() {
 }
 
 for export in dbx db level minutes; do
-    opened 0 "$program" "$export" desk.db
+    opened 0 "$program" "$export" desk.db < /dev/null
 done
-opened 0 "$program" verdict desk.db "$root/examples/signed.efi"
+opened 0 "$program" verdict desk.db "$root/examples/signed.efi" < /dev/null
 [ "$(cat out)" = allowed ] || fail "verdict: $(cat out)"
-opened 0 "$program" answer desk.db
-opened 1 "$program" impact desk.db 1
+opened 0 "$program" answer desk.db < /dev/null
+opened 1 "$program" impact desk.db 1 < /dev/null
 [ "$(cat err)" = 'refused 37 NoSuchProposal' ] || fail "impact: $(cat err)"
-opened 0 level_of desk.db
+opened 0 level_of desk.db < /dev/null
 printf 'HTTP/1.1 200 OK\r\nContent-Type: text/plain\r\nContent-Length: 32\r\nConnection: close\r\n\r\n' > level
 printf 'sbat,1,2024010101\ngrub,3\nshim,4\n' >> level
 cmp -s out level || fail "serve: another level: $(cat out)"
@@ -100,9 +102,15 @@ run 1 grub '' nothing impact desk.db 3
 # Calls by the rules of one officer, and behind them calls by those of two.
 audited "$owner" desk.db
 
-cp first.db desk.db
-echo 'otto-token-for-the-desk' | "$program" person desk.db otto officer k-otto > out
-[ "$(cat out)" = 'added otto' ] || fail 'person'
+# `person` and `enrol` add the same call to the minutes of before.
+echo otto-token-for-the-desk > token
+tr -d '\n' < token | sha256sum > summed
+printf '%s\tconsole\tk-otto\tadd-person otto officer %s\tadded otto\n' \
+    "$(($(wc -l < "$kept/minutes") + 1))" "$(cut -d' ' -f1 summed)" > added
+opened 0 "$program" person desk.db otto officer k-otto < token
+[ "$(cat out)" = 'added otto' ] || fail "person: $(cat out)"
+opened 0 "$program" enrol desk.db otto officer k-otto < summed
+[ "$(cat out)" = 'added otto' ] || fail "enrol: $(cat out)"
 
 # ---- the same tables and rows, made in the opposite order
 
@@ -152,5 +160,5 @@ done
 cmp -s day.first day.opposite || fail "another day of tables in the opposite order: $(cmp day.first day.opposite)"
 [ "$(grep -ao 'HTTP/1.1 200 OK' day.first | wc -l)" -eq 15 ] || fail "the day: $(grep -ao 'HTTP/1.1.*' day.first)"
 
-echo "$((openings + 12)) openings of a file of version 1, $((runs - 1)) impacts of it and an audit, each as it has to be; a day of" \
+echo "$((openings + 11)) openings of a file of version 1, $((runs - 1)) impacts of it and an audit, each as it has to be; a day of" \
     "the same tables in the opposite order has the same $(wc -c < day.first) bytes"
