@@ -15,7 +15,7 @@ find_program "$@"
 [ $# -eq 0 ] || shift
 # The longest first, so that the last ones fill the lanes.
 checks=${*:-tables.sh page.sh client.sh refused-memory.sh refused-requests.sh proxy.sh publish.sh package.sh mirror.sh limits.sh http.sh modules.sh
-    requests.sh faults.sh runbooks.sh audit.sh cuts.sh day.sh exports.sh readme.sh version1.sh help.sh upgrade.sh prove.sh runs.sh proved.sh}
+    requests.sh faults.sh runbooks.sh audit.sh follow.sh cuts.sh day.sh exports.sh readme.sh version1.sh help.sh upgrade.sh prove.sh runs.sh proved.sh standby.sh openapi.sh}
 until=$((SECONDS + 1200))
 enter_room
 trap 'kill $(jobs -p) 2> /dev/null; wait; exit 1' HUP INT TERM
@@ -23,7 +23,7 @@ trap 'kill $(jobs -p) 2> /dev/null; wait; exit 1' HUP INT TERM
 # run CHECK: runs it, and prints its line.
 run() {
     local begun=$SECONDS words=("$program") left=$((until - SECONDS)) how=failed
-    case $1 in modules.sh | prove.sh | proved.sh | tables.sh) words=() ;; esac
+    case $1 in modules.sh | openapi.sh | prove.sh | proved.sh | tables.sh) words=() ;; esac
     if [ "$left" -le 0 ]; then
         echo 'no time was left for it' > "$room/$1"
     else

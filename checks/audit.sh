@@ -61,7 +61,8 @@ hash_of() { sha256sum < "$1" | cut -d ' ' -f 1; }
 } > told
 run 0 told '' none audit "$owner" minutes
 run 0 told '' minutes audit "$owner" -
-for export in dbx db level; do
+"$program" shim desk.db > shim
+for export in dbx shim db level; do
     run 0 "$export" '' none audit "$owner" minutes "$export"
     run 0 "$export" '' minutes audit "$owner" - "$export"
 done

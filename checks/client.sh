@@ -11,13 +11,18 @@
 #             cases of doubt
 #   mistakes  whole files' hashes, fingerprints, entries of the other kind, slips in generations and
 #             stamps, texts, tokens, settings, lengths
+#   looks     the certificates, images and requests of checks/imports/looks.json; the same at a desk, with
+#             a mistake each: an elliptic certificate, a CA, a revoked one, a revoked issuer, files that
+#             are another image, a proposal and a request of one's own
 #   imports   each kind of a file of revocations, cut at each length of its header; more entries
 #             than an import may have
 #   routes    proposals shown whole, impacts, minutes in parts, people; a Confirm that is bound to
 #             what was shown
+#   minutes   each text of docs/FORMATS.md in words; why, by officers, by others and by a copy
+#   watches   what waits for each role, told once, to a command too; the timer's unit of client/watch
 #   signing   the job, the loop and the evening of client/README.md, as printed;
 #             a foreign signature that carries a listed certificate
-#   readme    the days of README.md, by deskctl, and docs/FORMATS.md, by curl, as printed: the same minutes but for keys
+#   readme    the days of README.md, by deskctl, and docs/FORMATS.md, by curl, as printed: the same minutes but for keys and files
 # Then deskctl and the check's own Python have the syntax of Python 3.9 and no finding of pyflakes3,
 # its modules have at most 500 lines of 100 columns and functions under 40 lines, as one file it has
 # the same bytes each time, and help, page and completions are written and read. deskctl isn't proved, and neither is what
@@ -72,7 +77,7 @@ deskctl=$root/client/deskctl
 ./one --help | cmp -s - help || fail 'deskctl as one file has another help'
 commands=$(sed -n 's/^  \([a-z-]*[a-z]\)  .*/\1/p' help | grep -v '^-' | tr '\n' ' ' | sed 's, $,,')
 case $commands in
-    'submit requests request wait review withdraw return verdict list-certificate list-digest unlist revoke raise import proposals proposal confirm drop get minutes people report token pending') ;;
+    'submit requests request wait review withdraw return verdict compare facts list-certificate list-digest unlist revoke raise import proposals proposal confirm drop get minutes why people me report token watch pending') ;;
     *) fail "the commands of help: $commands" ;;
 esac
 if has man; then

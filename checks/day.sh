@@ -10,7 +10,7 @@ set -eu
 . "$(dirname -- "$(readlink -f -- "$0")")/common.sh"
 needs sqlite3 xxd
 find_program "$@"
-exports='db dbx level minutes'
+exports='db dbx shim level minutes'
 owner=00112233-4455-6677-8899-aabbccddeeff
 stored=33221100554477668899aabbccddeeff
 signed=$root/examples/signed.efi
@@ -365,6 +365,8 @@ run 1 refused '' nothing verdict desk.db "$signed"
 confirms 3 otto k2 0 1 0
 hex dbx 92a4d23bc0967940b420fcf98ef103ed 5c000000 00000000 40000000 "$stored" "$certificate" 00000000000000000000000000000000
 exported dbx dbx desk.db
+hex shim a159c0a5e494a74a87b5ab155c2bf072 33000000 00000000 17000000 "$stored" 30053003020101
+exported shim shim desk.db
 says 'refused dbx-certificate' refused
 run 1 refused '' nothing verdict desk.db "$signed"
 
@@ -383,6 +385,9 @@ refused '409 Conflict' 30 AlreadyRevoked olga k0 /dbx/digests named_digest
 hex dbx 2616c4c14c509240aca941f936934328 7c000000 00000000 30000000 "$stored" "$digest" "$stored" "$(of cc)" \
     92a4d23bc0967940b420fcf98ef103ed 5c000000 00000000 40000000 "$stored" "$certificate" 00000000000000000000000000000000
 exported dbx dbx desk.db
+hex shim 2616c4c14c509240aca941f936934328 7c000000 00000000 30000000 "$stored" "$digest" "$stored" "$(of cc)" \
+    a159c0a5e494a74a87b5ab155c2bf072 33000000 00000000 17000000 "$stored" 30053003020101
+exported shim shim desk.db
 says 'refused dbx-digest' refused
 run 1 refused '' nothing verdict desk.db "$signed"
 

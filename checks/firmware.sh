@@ -5,9 +5,9 @@
 # OVMF boots a loader that decides about each of them without the desk's lists, with db, and with db
 # and dbx, both set as the authenticated updates that docs/INTEROPERATION.md makes; they are read
 # back byte for byte. shim, built from Debian's source package as that page says, decides about them
-# with dbx as its vendor_dbx, and with the bodies of the revoked certificates too; its level is once
-# a variable, once that page's revocations_sbat.efi. checks/firmware/decisions.tsv has each
-# decision, and why one isn't the desk's: another firmware, another shim or a change of ours shows.
+# with dbx as its vendor_dbx, and with shim-dbx.esl of `desk shim`; its level is once a
+# variable, once that page's revocations_sbat.efi. checks/firmware/decisions.tsv has each decision,
+# and why one isn't the desk's: another firmware, another shim or a change of ours shows.
 # Firmware has to refuse a db with an elliptic certificate, and a dbx that is too long.
 #
 # SHIM is a folder with shim's source; without it apt-get fetches that of Debian's package. A boot

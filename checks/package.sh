@@ -185,7 +185,7 @@ completes "${subcommands}help" help ''
 completes 'shelf/shim.efi' verdict desk.db shelf/sh
 completes 'submitter reviewer officer signer' person desk.db olga ''
 completes 'officer' person desk.db olga o
-completes 'dbx db level' audit OWNER minutes.txt ''
+completes 'dbx shim db level' audit OWNER minutes.txt ''
 completes 'level' audit OWNER minutes.txt l
 completes '' person desk.db ''
 
@@ -212,18 +212,19 @@ if has systemd-sysusers; then
         grep -q "^$user:.*:/var/lib/$user:" unpacked/etc/passwd || fail "the user $user: $(cat unpacked/etc/passwd)"
     done
 fi
-for tool in desk-publish desk-again; do holds "$tool --help" "unpacked/usr/bin/$tool" --help; done
+for tool in desk-publish desk-standby; do holds "$tool --help" "unpacked/usr/bin/$tool" --help; done
 # verified UNIT..: systemd finds nothing wrong, but that before 254 it can't let pauses grow.
 verified() {
     systemd-analyze verify --man=no "$@" > verified 2>&1 || { cat verified && return 1; }
     grep -v "Unknown key .*Restart\(Steps\|MaxDelaySec\)" verified || :
 }
 if has systemd-analyze; then
-    for unit in $name.service kovelamiru-publish.service kovelamiru-publish.timer; do
+    for unit in $name.service kovelamiru-publish.service kovelamiru-publish.timer kovelamiru-standby.service kovelamiru-standby.timer; do
         sed "s|^ExecStart=/|&${room#/}/unpacked/|" "unpacked/$units/$unit" > "$unit"
     done
-    silent 'the units' verified "$room/$name.service" "$room/kovelamiru-publish.service" "$room/kovelamiru-publish.timer"
-    for unit in kovelamiru-publish $name; do
+    silent 'the units' verified "$room/$name.service" "$room/kovelamiru-publish.service" "$room/kovelamiru-publish.timer" \
+        "$room/kovelamiru-standby.service" "$room/kovelamiru-standby.timer"
+    for unit in kovelamiru-publish kovelamiru-standby $name; do
         holds 'its exposure' systemd-analyze security --offline=yes --threshold=20 --no-pager "$room/$unit.service"
     done
     exposure=$(sed -n 's/.*Overall exposure level for .*: \([0-9.]*\) .*/\1/p' said)
@@ -324,7 +325,8 @@ else
     holds 'unpacking the client' dpkg-deb -x "one/$client" client
 fi
 python3 -m zipfile -e client/usr/bin/deskctl modules
-silent 'deskctl has other modules' diff -r -x __pycache__ "$root/client/src" modules
+silent 'deskctl has other modules' diff -r -x __pycache__ -x minutes.json "$root/client/src" modules
+silent 'deskctl has other sentences' cmp "$root/page/minutes.json" modules/deskctl/minutes.json
 holds 'deskctl --version' client/usr/bin/deskctl --version
 [ "$(cat said)" = "deskctl $("$program" --version | cut -d' ' -f2)" ] || fail "deskctl has another version than desk: $(cat said)"
 holds 'deskctl --help' client/usr/bin/deskctl --help

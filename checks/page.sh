@@ -10,8 +10,11 @@
 #         answers act once, whatever a proxy says behind them; an upload is stopped; slips are asked
 #         back about; files that can't be imported are refused in words; a request is reviewed by
 #         keyboard alone
+#   looks  a certificate to be listed (elliptic, a CA's, revoked, of a revoked issuer), a file beside a
+#         request, a proposal's images and who is signed in, with a file that is no image each
 #   people  a Confirm goes out only if it does what was shown; nothing of one person is left for the
 #         next
+#   history  in words, filtered, and why; the title's count; 100,000 calls don't keep the page from answering
 #   long  10,000 requests are shown
 # modules.sh tries the page's modules without a browser.
 # It also compares the refusals of page/refusals.js with docs/REFUSALS.md. It needs chromium,

@@ -13,7 +13,8 @@
 # while the desk is stopped, which is repeated with its key once it serves again; a token that is
 # refused, with tabs, spaces and control bytes about it. A closed site, and the way in by
 # packaging/nginx-maintenance.conf. Then the site of packaging/nginx-certificates.conf: two people
-# with certificates, its page, a forged token, a person taken out of the list, one revoked, whose TLS
+# with certificates, its page, a forged token, a machine that reads and does nothing else, by which
+# desk-publish and desk-standby read, a person taken out of the list, one revoked, whose TLS
 # session from before doesn't help, nor where another site of the same port keeps it. The log has each
 # request and no token. Each run of the program, of curl and of nginx ends after a stated time. Not
 # part of the gate: it needs curl, openssl and python3, and nginx or the network to get it.
@@ -561,10 +562,10 @@ echo 01 > ca.number
 key='-newkey ec -pkeyopt ec_paramgen_curve:prime256v1 -nodes'
 # shellcheck disable=SC2086
 {
-    openssl_ req -x509 $key -days 2 -subj "/CN=$people" -addext "subjectAltName=DNS:$people" -keyout people.key -out people.pem
+    openssl_ req -x509 $key -days 2 -subj "/CN=$people" -addext "subjectAltName=DNS:$people,IP:127.0.0.1" -keyout people.key -out people.pem
     openssl_ req -x509 $key -days 2 -subj '/O=Example/CN=people of the desk' -keyout ca.key -out ca.pem
     openssl_ req -x509 $key -days 2 -subj '/O=Example/CN=olga' -keyout forger.key -out forger.pem
-    for person in olga otto stan; do
+    for person in olga otto stan robot; do
         openssl_ req $key -subj "/O=Example/CN=$person" -keyout "$person.key" -out "$person.csr"
         openssl_ x509 -req -in "$person.csr" -CA ca.pem -CAkey ca.key -CAcreateserial -days 2 -out "$person.pem"
     done
@@ -583,7 +584,7 @@ people_are() {
 people_are "olga/$(token_of olga)" "otto/$(token_of otto)"
 sited nginx-certificates.conf > site.people.conf
 has_places nginx-certificates.conf site.people.conf "listen 127.0.0.1:$own ssl;" "$room/people.pem;" "$room/people.key;" "$room/ca.pem;" "$room/ca.crl;" \
-    "include $room/kovelamiru-desk.people;" "-e $room/kovelamiru-people.closed)"
+    "include $room/kovelamiru-desk.people;" "include $room/kovelamiru-desk.machines*;" "-e $room/kovelamiru-people.closed)"
 "$nginx" -t -q -p "$room/" -e "$room/error.log" -c nginx.conf 2> said || fail "nginx -t: $(cat said)"
 # It also stands alone, beside the names of the other site.
 mkdir no-tokens
@@ -668,6 +669,54 @@ people_are "olga/$(cat olga-2.token)"
 reread 'otto, taken out of the list' 403 otto
 people_are "olga/$(cat olga-2.token)" "otto/$(token_of otto)"
 reread 'otto, in the list again' 200 otto
+# A machine reads what is published, and does nothing else, with a token that only nginx has.
+before=$(kept)
+shown 403 robot || fail "a machine that isn't in the list: $(cat said)"
+printf '"~^\\QCN=robot,O=Example\\E$" "%s";\n' "$(token_of oscar)" > kovelamiru-desk.machines
+reread 'a machine' 200 robot
+for path in /dbx /db /minutes/1 /minutes/12; do
+    shows robot "$path"
+    [ "$(cat said)" = 200 ] || fail "$path for a machine: $(cat said)"
+done
+for path in / /page/index.html /report /people /requests /requests/1 /proposals /proposals/1 /proposals/1/impact /minutes/0 /minutes/1/ /level/ '/level?' //level \
+    /%6Cevel /minutes/../report /known-caller; do
+    shows robot "$path" --path-as-is -H "Desk-Token: $(token_of olga)"
+    [ "$(cat said)" = 403 ] || fail "$path for a machine: $(cat said) $(head -c 200 body)"
+done
+shows robot /level -I
+[ "$(cat said)" = 403 ] || fail "HEAD for a machine: $(cat said)"
+for path in /dbx/digests /level /db/digests /verdict; do
+    shows robot "$path" -H 'Expect:' -H 'Desk-Key: of-robot' --data-binary @longer
+    [ "$(cat said)" = 403 ] || fail "POST $path for a machine: $(cat said)"
+done
+[ "$(kept)" = "$before" ] || fail 'a body of a machine was kept'
+shows robot /minutes/1
+cp body minutes.first
+# read_by PROGRAM WORD..: what reads the desk by the machine's certificate.
+read_by() {
+    reader=$1
+    shift
+    timeout -k 5 300 "$root/packaging/$reader" "$@" --owner 00112233-4455-6677-8899-aabbccddeeff --url "https://127.0.0.1:$own" --ca people.pem \
+        --cert robot.pem --cert-key robot.key
+}
+read_by desk-publish published --first --program "$program" > said 2>&1 || fail "desk-publish by a certificate: $(cat said)"
+head -n 1000 published/minutes.txt | cmp -s - minutes.first || fail 'desk-publish by a certificate: other minutes'
+# (`true` in place of `desk follow`)
+read_by desk-standby copy.db copied --program true > said 2>&1 || fail "desk-standby by a certificate: $(cat said)"
+cmp -s copied published/minutes.txt || fail 'desk-standby: other minutes'
+# A run that was stopped within a line is gone on with.
+head -c 700 published/minutes.txt > copied
+read_by desk-standby copy.db copied --program true > said 2>&1 || fail "desk-standby after a stop: $(cat said)"
+cmp -s copied published/minutes.txt || fail 'desk-standby after a stop: other minutes'
+head -n 3 published/minutes.txt | sed '3s/$/ /' > copied
+read_by desk-standby copy.db copied --program true > said 2>&1 && fail 'desk-standby of another desk'
+grep -q "^desk-standby: refused minutes: line 3 of copied isn't the desk's" said || fail "desk-standby of another desk: $(cat said)"
+chmod 644 robot.key
+read_by desk-standby copy.db copied --program true > said 2>&1 && fail 'a key that others can read'
+grep -q '^desk-standby: others can read the private key robot.key: chmod 600$' said || fail "a key that others can read: $(cat said)"
+chmod 600 robot.key
+rm kovelamiru-desk.machines
+reread 'a machine, taken out of the list' 403 robot
 # session STATUS NAME VERSION PORT WORD..: the level in this version of TLS, with a session that is kept
 # or taken up, is answered so. (curl keeps none between its runs.)
 session() {

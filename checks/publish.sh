@@ -10,11 +10,14 @@
 # server that is no desk. It is killed at each of its steps, and what is published is then the old
 # files or the new ones, whole. Another user checks each publication with its sums and their
 # signature, as its help says, and a mirror takes one publication while the next is made. efitools and
-# dbxtool read what was published. Then the desk is asked over HTTP while it serves. It needs curl,
-# efitools, dbxtool (fwupd), openssl, python3, setpriv and ssh-keygen.
+# dbxtool read what was published. Then the desk is asked over HTTP while it serves. At last shim-dbx.esl
+# is what efitools makes of the same certificates, by `desk shim`, `desk audit` and desk-publish, and no
+# slip in it is published; index.html and dbx.json are those of the lists, by a reading of their own that
+# finds each slip, with no markup and no word that a person typed. It needs curl, efitools, dbxtool
+# (fwupd), openssl, python3, setpriv, ssh-keygen and xxd.
 set -eu
 . "$(dirname -- "$(readlink -f -- "$0")")/common.sh"
-needs curl dbxtool openssl python3 setpriv sig-list-to-certs sign-efi-sig-list ssh-keygen
+needs cert-to-efi-sig-list curl dbxtool openssl python3 setpriv sig-list-to-certs sign-efi-sig-list ssh-keygen xxd
 find_program "$@"
 # In memory, where there is room for it: each of some hundred publications waits for its disk.
 if [ -w /dev/shm ]; then export TMPDIR=/dev/shm; fi
@@ -92,7 +95,7 @@ $([ ! -e out/published/SHA256SUMS.sig ] || echo SHA256SUMS.sig)
 NAMES
     sed -i '/^$/d' wanted
     cmp -s names wanted || fail "published: $(cat names), in place of $(cat wanted)"
-    for name in dbx.esl db.esl level.csv audit.txt; do grep -q "  $name\$" out/published/SHA256SUMS || fail "no sum of $name: $(cat out/published/SHA256SUMS)"; done
+    for name in dbx.esl db.esl level.csv audit.txt shim-dbx.esl index.html dbx.json checkpoint.txt; do grep -q "  $name\$" out/published/SHA256SUMS || fail "no sum of $name: $(cat out/published/SHA256SUMS)"; done
     [ "$(sed -n 's/^# calls //p' out/published/SHA256SUMS)" = "$1" ] || fail "the sums are of other calls than $1: $(cat out/published/SHA256SUMS)"
     [ "$(sed -n 's/^# folder //p' out/published/SHA256SUMS)" = "$(readlink out/published)" ] || fail "the sums name another folder: $(cat out/published/SHA256SUMS)"
     date=$(sed -n 's/^# date \(....-..-..T..:..:..Z\)$/\1/p' out/published/SHA256SUMS)
@@ -247,13 +250,18 @@ for command in no-update silent another; do publish 1 'refused signature: ' --si
 publish 3 'dbx.auth: ' --sign "$room/linked"
 publish 3 'dbx.auth is no file' --sign "$room/fifo"
 # One that waits, or something that it left, is ended: two minutes are two seconds here.
-mkdir quick
-sed 's/^\(PROGRAM_SECONDS, SIGNING_SECONDS, WITNESS_SECONDS =\) 300, 120, 30$/\1 300, 2, 2/' "$root/packaging/desk-publish" > quick/desk-publish
-sed 's/^\(ANSWER_SECONDS, ANSWER_BYTES =\) 300, 1 << 30$/\1 2, 1 << 20/' "$root/packaging/desk_http.py" > quick/desk_http.py
-for file in desk-publish desk_http.py; do
-    if cmp -s "quick/$file" "$root/packaging/$file"; then fail "$file has other limits than this check knows"; fi
-done
-chmod +x quick/desk-publish
+# changed FOLDER FILE EDIT: a copy of the programs in which sed has changed this file.
+changed() {
+    mkdir -p "$1"
+    for file in desk-publish desk_http.py desk_lists.py desk_page.py desk_shim.py; do
+        [ -e "$1/$file" ] || cp "$root/packaging/$file" "$1"
+    done
+    sed -i "$3" "$1/$2"
+    if cmp -s "$1/$2" "$root/packaging/$2"; then fail "$2 has nothing for $3"; fi
+}
+changed quick desk-publish 's/^WITNESS_SECONDS = 30$/WITNESS_SECONDS = 2/'
+changed quick desk_lists.py 's/^\(PROGRAM_SECONDS, SIGNING_SECONDS =\) 300, 120$/\1 300, 2/'
+changed quick desk_http.py 's/^\(ANSWER_SECONDS, ANSWER_BYTES =\) 300, 1 << 30$/\1 2, 1 << 20/'
 # quickly STATUS TEXT WORD..: the same with these limits, in a minute.
 quickly() {
     status=$1 wanted=$2
@@ -269,7 +277,7 @@ for command in card card-behind; do
 done
 shows 5
 ssh-keygen -q -t ed25519 -N '' -C publish -f publisher > said
-echo "desk.example.org namespaces=\"kovelamiru-publish\" $(cut -d' ' -f1,2 publisher.pub)" > mirror.signers
+echo "desk.example.org namespaces=\"kovelamiru-publish,kovelamiru-checkpoint\" $(cut -d' ' -f1,2 publisher.pub)" > mirror.signers
 chmod 644 mirror.signers
 publish 3 'ssh-keygen signs nothing with' --sign "$room/sign" --key none
 CREDENTIALS_DIRECTORY=$room publish 0 'calls 11: published' --sign "$room/leaving" --key publisher
@@ -405,14 +413,14 @@ while :; do
     cp -a before out
     got=0
     python3 -B "$root/checks/publish/kills.py" "$stop" "$room/out" "$root/packaging/desk-publish" "$room/out/published" --owner "$owner" \
-        --program "$room/lying/desk" --db desk.db --sign "$room/sign" --key "$room/publisher" > said 2>&1 || got=$?
+        --program "$room/lying/desk" --db desk.db --sign "$room/sign" --key "$room/publisher" > killed 2>&1 || got=$?
     case $(head -n 1 out/published/audit.txt) in
         'calls 11') shows 11 ;;
         'calls 13') shows 13 ;;
         *) fail "killed at step $stop: $(cat out/published/audit.txt)" ;;
     esac
     [ "$got" -ne 0 ] || break
-    [ "$got" -eq 137 ] || fail "at step $stop: status $got, $(cat said)"
+    [ "$got" -eq 137 ] || fail "at step $stop: status $got, $(cat killed)"
     # The next run goes on from there, and takes away what was left.
     publish 0 'calls 13: ' --program lying/desk
     shows 13
@@ -543,5 +551,269 @@ for text in '<html>\n' 'no line' '1\tolga\tk\tx\ty\n1\tolga\tk\tx\ty\n' '2\tolga
     kill "$lies"
     wait "$lies" 2> /dev/null || :
 done
+
+# ---- shim's form of dbx
+
+mkdir shims
+cd shims
+"$program" init desk.db "$owner"
+for name in olga otto; do
+    printf '%s-token-for-the-desk' "$name" | sha256sum | "$program" enrol desk.db "$name" officer "k-$name" > said
+done
+# digest_of NAME: the SHA-256 of a certificate's TBSCertificate, by openssl.
+digest_of() {
+    at=$(openssl asn1parse -inform DER -in "$1.der" | awk -F : 'NR == 2 { print $1 + 0 }')
+    openssl asn1parse -inform DER -in "$1.der" -strparse "$at" -noout -out tbs
+    sha256sum < tbs | cut -d' ' -f1
+}
+# listed and revoked; listed, unlisted and then revoked; revoked, listed and unlisted; revoked alone; listed alone.
+for name in stays gone late never good; do
+    openssl req -x509 -newkey rsa:2048 -nodes -days 2 -subj "/CN=$name" -keyout key.pem -out "$name.pem" 2> openssl.err
+    openssl x509 -in "$name.pem" -outform DER -out "$name.der"
+done
+unlist() {
+    text "{\"digest\":\"$(digest_of "$1")\",\"kind\":\"certificate\"}"
+    called olga "k-unlist-$1" /db/unlist body
+}
+for name in stays gone good; do called olga "k-$name" /db/certificates "$name.der"; done
+unlist gone
+proposals=0
+# revoke PATH HEX: proposed by one officer, confirmed by another.
+revoke() {
+    proposals=$((proposals + 1))
+    text "{\"digest\":\"$2\"}"
+    called olga "k-revoke-$proposals" "$1" body
+    text ''
+    called otto "k-confirm-$proposals" "/proposals/$proposals/confirm" body
+}
+for name in stays gone late never; do revoke /dbx/certificates "$(digest_of "$name")"; done
+for number in 1 2; do revoke /dbx/digests "$(printf '%064d' "$number")"; done
+called olga k-late /db/certificates late.der
+unlist late
+"$program" minutes desk.db > minutes.txt
+"$program" dbx desk.db > dbx.esl
+# What it has to be, by efitools and by dbx: its first list, the certificates that somebody gave, and one list of the other one.
+{
+    head -c $((28 + 2 * 48)) dbx.esl
+    for name in stays gone late; do echo "$(digest_of "$name") $name"; done | sort | while read -r _ name; do
+        cert-to-efi-sig-list -g "$owner" "$name.pem" one.esl
+        cat one.esl
+    done
+    printf '92a4d23bc0967940b420fcf98ef103ed5c0000000000000040000000%s%s%032d' 33221100554477668899aabbccddeeff "$(digest_of never)" 0 | xxd -r -p
+} > wanted.esl
+"$program" shim desk.db > shim.esl || fail 'desk shim'
+cmp shim.esl wanted.esl || fail 'desk shim writes another one'
+"$program" audit "$owner" minutes.txt shim > shim.esl || fail 'desk audit .. shim'
+cmp shim.esl wanted.esl || fail 'desk audit .. shim writes another one'
+mkdir out
+publish 0 ': published' --first
+cmp out/published/shim-dbx.esl wanted.esl || fail 'the published shim-dbx.esl is another one'
+shows "$(wc -l < minutes.txt)"
+sig-list-to-certs out/published/shim-dbx.esl read > listed 2>&1 || fail "sig-list-to-certs of shim-dbx.esl: $(cat listed)"
+[ "$(find . -name 'read-*.der' | wc -l)" -eq 3 ] || fail "sig-list-to-certs reads other certificates: $(ls)"
+# A revoked certificate that is listed again with another signature: both bodies are in it.
+{
+    head -c $(($(wc -c < gone.der) - 1)) gone.der
+    printf x
+} > spoilt.der
+[ "$(digest_of spoilt)" = "$(digest_of gone)" ] || fail 'another certificate'
+called olga k-spoilt /db/certificates spoilt.der
+publish 0 ': published'
+for name in stays gone spoilt late; do
+    grep -qF "$(xxd -p "$name.der" | tr -d '\n')" << HEX || fail "shim-dbx.esl lacks $name"
+$(xxd -p out/published/shim-dbx.esl | tr -d '\n')
+HEX
+done
+# A body of another certificate, or none, which passes an audit; a slip in shim-dbx.esl: nothing is published.
+revoke /dbx/digests "$(printf '%064d' 3)"
+"$program" minutes desk.db > minutes.txt
+python3 - << 'END'
+hexed = {name: open(f"{name}.der", "rb").read().hex() for name in ("stays", "good")}
+text = open("minutes.txt", encoding="ascii").read()
+open("forged.txt", "w", encoding="ascii").write(text.replace(f" {hexed['stays']}\t", f" {hexed['good']}\t"))
+open("broken.txt", "w", encoding="ascii").write(text.replace(f" {hexed['stays']}\t", f" {hexed['stays']}00\t"))
+END
+"$program" audit "$owner" forged.txt > said || fail "an audit of a forged body: $(cat said)"
+before=$(readlink out/published)
+# slips WHY COMMAND: nothing is published by a program for which the command, with the program's words, writes shim-dbx.esl.
+slips() {
+    printf '#!/bin/sh\nif [ "$1 $4" = "audit shim" ]; then %s; else exec %s "$@"; fi\n' "$2" "$program" > slip
+    chmod 755 slip
+    got=0
+    "$root/packaging/desk-publish" out/published --owner "$owner" --program "$PWD/slip" --db desk.db > said 2>&1 || got=$?
+    if [ "$got" -ne 1 ] || ! grep -qF "refused shim: shim-dbx.esl wouldn't revoke what dbx does: $1" said; then fail "$2: status $got, $(cat said)"; fi
+    found=$((found + 1))
+}
+slips 'its bodies of ' "$program audit $owner $PWD/forged.txt shim"
+slips 'a body that the minutes give is no certificate' "$program audit $owner $PWD/broken.txt shim"
+number=0
+while IFS='|' read -r slip why; do
+    number=$((number + 1))
+    slips "$why" "$program \"\$@\" | python3 -B $root/checks/publish/slips.py '$slip' $PWD"
+done << 'SLIPS'
+a body less|its bodies of 
+one body of two|its bodies of 
+a body of another|its bodies of 
+none without a body|its certificates without a body 
+another time|its certificates without a body 
+one of them twice|its certificates without a body 
+no digests|it has 0 digests of images
+a digest less|it has 2 digests of images
+another owner|an entry has the owner 00000000-0000-0000-0000-000000000000
+descending|a certificate is in it twice
+twice|a certificate is in it twice
+another order|it has other lists, or in another order
+another kind|it has other lists, or in another order
+SLIPS
+[ "$number" -eq 13 ] || fail "only $number slips"
+[ "$(readlink out/published)" = "$before" ] || fail 'a slip is published'
+publish 0 ': published'
+cd "$room"
+
+# ---- what people and programs read
+
+mkdir pages
+cd pages
+"$program" init desk.db "$owner"
+for person in ann/submitter olga/officer otto/officer; do
+    printf '%s-token-for-the-desk' "${person%/*}" | sha256sum | "$program" enrol desk.db "${person%/*}" "${person#*/}" "k-${person%/*}" > said
+done
+# What a person types, as the page may not have it: markup in a component's name; names, keys, titles, the SHA-256 of tokens.
+component='<script>alert(1)</script>&amp;"x"'
+private="olga k-olga <b>secret k-secret $(printf olga-token-for-the-desk | sha256sum | cut -d' ' -f1)"
+# reads FOLDER BEFORE: index.html and dbx.json in this folder are right, after that of BEFORE, or the first (`-`).
+reads() {
+    # shellcheck disable=SC2086
+    python3 -B "$root/checks/publish/page.py" "$1" "$2" $private > said 2>&1
+}
+# renders BEFORE: the published ones are.
+renders() {
+    reads out/published "$1" || fail "index.html or dbx.json: $(cat said)"
+    found=$((found + 2))
+}
+proposals=0
+# level NAME GENERATION STAMP: raised by two officers.
+level() {
+    proposals=$((proposals + 1))
+    python3 -c 'import json, sys; print(json.dumps({"component": sys.argv[1], "generation": int(sys.argv[2]), "stamp": int(sys.argv[3])}), end="")' "$@" > body
+    called olga "k-level-$proposals" /level body
+    text ''
+    called otto "k-confirm-$proposals" "/proposals/$proposals/confirm" body
+}
+# of_now: the folder that is published.
+of_now() { printf 'out/%s' "$(readlink out/published)"; }
+called ann k-secret /requests "$root/examples/tiny.efi" 'Desk-Title: <b>secret title</b>'
+for name in stays gone good; do called olga "k-$name" /db/certificates "../shims/$name.der"; done
+revoke /dbx/digests "$(printf '%064d' 1)"
+mkdir out
+publish 0 ': published' --first
+renders -
+one=$(of_now)
+level "$component" 3 2026112701
+level grub 2 2026112702
+revoke /dbx/certificates "$(cd ../shims && digest_of stays)"
+revoke /dbx/digests "$(printf '%064d' 2)"
+publish 0 ': published' --key ../publisher
+renders "$one"
+two=$(of_now)
+# More than a page names, a raised generation, an unlisted certificate; the time of one entry stays.
+{
+    printf 'kind,value,generation\n'
+    for number in $(seq 120); do printf 'sha256,%064d,\n' "1$number"; done
+} > import.csv
+called olga k-import /imports/csv import.csv 'Desk-Stamp: 2026112703'
+proposals=$((proposals + 1))
+text ''
+called otto k-confirm-import "/proposals/$proposals/confirm" body
+level grub 3 2026112704
+text "{\"digest\":\"$(cd ../shims && digest_of gone)\",\"kind\":\"certificate\"}"
+called olga k-unlist /db/unlist body
+# The next publication has the date of this one, which is ahead, so two runs have one date.
+sed -i "s/^# date .*/# date $(date -u -d '1 hour' +%Y-%m-%dT%H:%M:%SZ)/" out/published/SHA256SUMS
+cp -a out first
+publish 0 ': published' --key ../publisher --public-minutes
+renders "$two"
+# same FOLDER: the files of two runs with one date.
+same() { diff -r "$1" out > said 2>&1; }
+mv out second
+cp -a first out
+publish 0 ': published' --key ../publisher --public-minutes
+same second || fail "two runs with one date: $(cat said)"
+rm -rf second
+cp -a out second
+publish 0 ': nothing new' --key ../publisher --public-minutes
+same second || fail "nothing new, and something changed: $(cat said)"
+# A slip in what writes them is found.
+number=0
+while IFS='|' read -r why edit; do
+    number=$((number + 1))
+    changed "slip-$number" desk_page.py "$edit"
+    rm -rf out
+    cp -a first out
+    "slip-$number/desk-publish" out/published --owner "$owner" --program "$program" --db desk.db --key ../publisher > said 2>&1 || fail "the slip $edit: $(cat said)"
+    if reads out/published "$two" || ! grep -qF -e "$why" said; then fail "the slip $edit, in place of $why: $(cat said)"; fi
+    found=$((found + 1))
+done << 'SLIPS'
+an element script|s/<code>{escape(name)}</<code>{name}</
+index.html has olga|s/<h1>Secure Boot lists/<h1>{escape(now.found.minutes.decode())}/; s/return \["<h1>/return [f"<h1>/
+dbx.json: |s/("date", spelled(day(now.date)))/("date", spelled(now.found.minutes.decode()))/
+dbx.json has markup|s/\.replace("<", .*)$//
+dbx.json: |s/first = old\[it\] if it in old else day(now.date)/first = day(now.date)/
+dbx.json: |s/("since", spelled(since))/("since", spelled(None))/
+the table of lists: |s/{len(has - had):,}/{len(has):,}/
+the table of lists: |s/{len(had - has):,}/0/
+the changes of the level: |s/f"raised from {old\[name\]}"/""/
+what is new: |s/^NAMED = 100/NAMED = 101/
+what is new: |s/ if it not in old\]$/]/
+what the audit prints: |s/now.audit.decode().rstrip()/now.audit.decode()[:20]/
+no date |s/\[11:19\]/[11:16]/
+a link to minutes.html|s/("dbx.json", "dbx for/("minutes.html", "dbx for/
+what is said of others: |s/(\[("minutes.txt", "each call that the desk accepted")\] if now.public_minutes else \[\])/[("minutes.txt", "each call")]/
+the policy |s/{style}/x/
+SLIPS
+[ "$number" -eq 16 ] || fail "only $number slips"
+changed slip-again desk_page.py 's/<title>/<title>{time.time_ns()} /'
+rm -rf out
+cp -a first out
+slip-again/desk-publish out/published --owner "$owner" --program "$program" --db desk.db --key ../publisher --public-minutes > said 2>&1 || fail "$(cat said)"
+if same second; then fail 'two runs with the time in the page have the same bytes'; fi
+# The checkpoint, as docs/AUDIT.md says to look at it: by later minutes; not by others, not with another number, nor by the
+# signature of something else.
+cp -L ../mirror.signers SIGNERS
+awk '/^## Checkpoints$/ { on = 1; next } /^## / { on = 0 } on && /^    / { print substr($0, 5) }' "$root/docs/AUDIT.md" > typed
+[ "$(wc -l < typed)" -eq 5 ] || fail "AUDIT has other commands: $(cat typed)"
+cp out/published/checkpoint.txt* .
+# looked STATUS: what is typed ends so.
+looked() {
+    got=0
+    sh -eu typed > said 2>&1 || got=$?
+    [ "$got" -eq "$1" ] || fail "a checkpoint: status $got in place of $1: $(cat said)"
+    found=$((found + 1))
+}
+text "{\"digest\":\"$(printf '%064d' 9)\"}"
+called otto k-later /db/digests body
+"$program" minutes desk.db > minutes.txt
+looked 0
+grep -qx "minutes $(sed -n 's/^minutes //p' out/published/audit.txt)" said || fail "a checkpoint: $(cat said)"
+sed -i '2s/olga/otto/' minutes.txt
+looked 1
+"$program" minutes desk.db > minutes.txt
+sed -i 's/^calls .*/calls 5/' checkpoint.txt
+looked 255
+cp out/published/checkpoint.txt .
+cp out/published/SHA256SUMS.sig checkpoint.txt.sig
+looked 255
+# After a publication of a desk-publish that had no dbx.json, nothing tells when its entries came.
+rm -rf out
+cp -a first out
+(cd out/published && chmod u+w . && rm index.html dbx.json && sed -i '/ index.html$/d; / dbx.json$/d' SHA256SUMS)
+publish 0 ': published'
+renders "$two"
+python3 - << 'END' || fail 'dbx.json without one before'
+import json
+firsts = [it["first_published"] for it in json.load(open("out/published/dbx.json", encoding="ascii"))["dbx"]]
+assert (len(firsts), firsts.count(None)) == (123, 3), firsts
+END
+cd "$room"
 
 echo "$found publications and files, each as it has to be; killed at $((stop - 1)) steps"

@@ -2,10 +2,10 @@
 # The day at the desk in README.md, by deskctl, and that by curl in docs/FORMATS.md, each run as it is
 # printed, with the built program or the named one: readme.sh [PROGRAM]. The standard output of each
 # command is compared with the lines below it. If port 8080 is taken, the commands use another one,
-# and the last line says so. Not part of `rt ci`: it needs bash, curl, openssl and python3.
+# and the last line says so. Not part of `rt ci`: it needs bash, curl, openssl, python3 and sbsign.
 set -eu
 . "$(dirname -- "$(readlink -f -- "$0")")/common.sh"
-needs bash curl openssl python3
+needs bash curl openssl python3 sbsign
 find_program "$@"
 enter_room
 cat > readme.py << 'PYTHON'

@@ -4,9 +4,10 @@
 # its page is for; its commands run in order, each in the shell of the person whose it is, and what
 # comes of them is compared with the page. As root each person, the desk, its publication and nginx
 # are users of their own, in a list of users that only this check sees. Besides: tokens that leaked
-# before a page stay refused after it; while a desk is moved, it allows no revoked image; while one is
-# restored, nobody reads another's calls. So is the beginning of publishing in packaging/README.md, and
-# nobody's own token is used for it. Scripts stand in for systemctl, journalctl and runuser, paths
+# before a page stay refused after it; while a desk is moved, it allows no revoked image; one that is
+# made again from its minutes, on its machine or on the standby of one that was killed, has the lost
+# one's dbx, db, level and minutes, and a key that is repeated there takes effect once. So is the
+# beginning of publishing in packaging/README.md, and nobody's own token is used for it. Scripts stand in for systemctl, journalctl and runuser, paths
 # of the system are folders here, and nginx has packaging/nginx.conf without its TLS. The full disk is
 # a file system in memory, so it needs root or user namespaces; and curl, efitools, nginx, openssl,
 # python3, setpriv, sqlite3, unshare and xxd. The day by curl in docs/FORMATS.md is pasted as one block, too.
@@ -18,13 +19,6 @@ find_program "$@"
 [ $# -eq 0 ] || shift
 enter_room
 chmod 711 "$room"
-# What is printed to be typed stays one word, whatever a key has in it.
-key="k;\$(id)'\`"
-printf '7\trita\tk\treview 3 yes \treviewed 3 open\n8\tconsole\t%s\tadd-person rosa reviewer abab\tadded rosa\n' "$key" > part
-"$root/packaging/desk-again" part --turns turns > typed || fail "desk-again: $(cat typed)"
-typed=$(sed -n 's/^0000008.console: echo abab | desk enrol DB rosa reviewer //p' typed)
-[ "$(eval "printf %s $typed")" = "$key" ] || fail "desk-again prints $(cat typed)"
-[ "$(ls turns)" = 0000007.rita ] || fail "turns: $(ls turns)"
 # Mounts and processes of its own, which end with it.
 own=-mpf
 [ "$(id -u)" -eq 0 ] || own="--map-current-user --keep-caps $own"

@@ -11,21 +11,25 @@ import zipapp
 import zipfile
 
 
-def packed(source: pathlib.Path) -> io.BytesIO:
-    """A zip of the modules, in the order of their names; ZipInfo's own time is 1980."""
+def packed(root: pathlib.Path) -> io.BytesIO:
+    """A zip of the modules and of the page's table of sentences, in the order of their names there;
+    ZipInfo's own time is 1980."""
+    source = root / "client" / "src"
+    files = {path.relative_to(source).as_posix(): path for path in source.rglob("*.py")}
+    files["deskctl/minutes.json"] = root / "page" / "minutes.json"
     made = io.BytesIO()
     with zipfile.ZipFile(made, "w") as archive:
-        for path in sorted(source.rglob("*.py")):
-            entry = zipfile.ZipInfo(path.relative_to(source).as_posix())
+        for name in sorted(files):
+            entry = zipfile.ZipInfo(name)
             entry.external_attr = 0o644 << 16
-            archive.writestr(entry, path.read_bytes())
+            archive.writestr(entry, files[name].read_bytes())
     made.seek(0)
     return made
 
 
 def main() -> None:
-    source = pathlib.Path(__file__).resolve().parent / "src"
-    zipapp.create_archive(packed(source), sys.argv[1], "/usr/bin/python3 -IS")
+    root = pathlib.Path(__file__).resolve().parent.parent
+    zipapp.create_archive(packed(root), sys.argv[1], "/usr/bin/python3 -IS")
 
 
 main()

@@ -74,8 +74,20 @@ a listed certificate, or an entry of the other kind at the desk;
 - an import in which nothing is new.
 
 `list-certificate` always asks, since one officer lists alone: it shows the certificate's subject,
-its issuer and whether it is a CA's. A file of two certificates, of a request, a key or a CRL
-isn't taken, here and wherever a certificate is named by its file.
+its issuer, its key and whether it is a CA's. It says where firmware would refuse it or the desk
+would surprise:
+
+- a key that isn't RSA: firmware refuses the whole db with it;
+- a CA's: the desk compares what an image carries, and most images carry their signer's certificate
+alone. `--image` names a signed one, and deskctl says whether that carries the certificate;
+- one that is revoked at the desk, or with whose issuer's name a certificate is revoked, as far as
+db, the image and the minutes have that one's body.
+
+A file of two certificates, of a request, a key or a CRL isn't taken, here and wherever a
+certificate is named by its file.
+
+A vote on a request of one's own, and a Confirm of one's own proposal, are told before the
+question: the desk refuses both.
 
 `confirm` names the desk, shows all that the proposal names and which known images it would bar,
 and asks how many these are. When the answer comes it looks again, and sends nothing if one of
@@ -101,10 +113,26 @@ versions of Windows' boot programs, which have the form of a digest in a list bu
 desk doesn't keep the owner of an entry, nor a certificate's time of revocation: it is revoked
 whenever it signed. `--dry-run` says all of this and sends nothing; it needs a desk only to count
 what is new."""
+IMAGES = """\
+`facts`, `compare`, `revoke` and `list-digest` take what an image is from the desk (POST /facts), or
+from the program desk: where `--program` names one, where no desk is named, and at an older desk.
+`compare` says of a file that it is the one of a request, or the same image with another signature
+table (`digest` or `signing` is equal), or another image, and what differs. `facts` and `compare` say what
+dbx, the level and db say of it today.
+
+Over which digest a signature is, and by whom it says that it is, deskctl reads in the image's
+certificate table itself: that isn't proved, and no signature is checked. Firmware holds a
+signature against digests of its own algorithm, so a revocation, which is by SHA-256, misses one
+over SHA-384, SHA-512 or SHA-1. Where an image's length is no multiple of 8, firmware looks at
+`digest` of an unsigned one, shim at `signing`."""
 FILES = (
     (
         "~/.config/deskctl.conf",
         "The settings. `XDG_CONFIG_HOME` moves it, `DESKCTL_CONF` names another file.",
+    ),
+    (
+        "~/.local/state/deskctl-watch/",
+        "What `watch` told, a file for each caller. `XDG_STATE_HOME` moves it.",
     ),
     (
         "~/.local/state/deskctl/",
@@ -237,6 +265,7 @@ def page() -> str:
         ("A COMMAND ACTS ONCE", roff(ONCE)),
         ("QUESTIONS", roff(QUESTIONS)),
         ("IMPORTS", roff(IMPORTS)),
+        ("IMAGES AT HAND", roff(IMAGES)),
         (
             "EXIT STATUS",
             named([(str(status), text[0].upper() + text[1:] + ".") for status, text in STATUSES]),

@@ -51,6 +51,9 @@ place 644 "$room/deskctl.bash" usr/share/bash-completion/completions/deskctl
 place 644 "$room/_deskctl" usr/share/zsh/vendor-completions/_deskctl
 place 644 "$room/deskctl.fish" usr/share/fish/vendor_completions.d/deskctl.fish
 place 644 "$root/client/README.md" "usr/share/doc/$name/README.md"
+for unit in service timer; do
+    place 644 "$root/client/watch/deskctl-watch.$unit" "usr/share/doc/$name/examples/deskctl-watch.$unit"
+done
 
 cp "$root/CHANGELOG.md" "$room/CHANGELOG.md"
 {

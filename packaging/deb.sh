@@ -16,7 +16,7 @@ fail() {
     exit 1
 }
 if [ $# -lt 1 ] || [ $# -gt 2 ]; then fail 'deb.sh PROGRAM [OUT]'; fi
-program=$(readlink -f -- "$1")
+program=$(readlink -f -- "$1") || fail "there is no $1"
 out=$(readlink -f -- "${2-.}")
 for tool in dpkg-deb dpkg-shlibdeps git gzip python3; do
     command -v "$tool" > /dev/null || fail "$tool is needed"
@@ -31,7 +31,7 @@ record=$("$here/record" read "$program")
 # told KEY: what the record says of it.
 told() { echo "$record" | sed -n "s/^$1 //p"; }
 commit=$(told commit)
-# As `desk 0.1.0 (KIT)`.
+# As `desk 0.2.0 (KIT)`.
 said=$("$program" --version)
 version=$(echo "$said" | sed -n 's/^desk \([^ ]*\) (.*)$/\1/p')
 newest=$(sed -n '/^## /{s/^## \([^ ,]*\).*/\1/p;q}' "$root/CHANGELOG.md")
@@ -56,7 +56,7 @@ packed() { gzip -9n "$1"; }
 # ---- the files
 
 place 755 "$program" usr/bin/desk
-for unit in kovelamiru-desk.service kovelamiru-publish.service kovelamiru-publish.timer; do
+for unit in kovelamiru-desk.service kovelamiru-publish.service kovelamiru-publish.timer kovelamiru-standby.service kovelamiru-standby.timer; do
     place 644 "$here/$unit" "usr/lib/systemd/system/$unit"
 done
 place 644 "$here/kovelamiru-desk.sysusers" usr/lib/sysusers.d/kovelamiru-desk.conf
@@ -71,9 +71,9 @@ for site in "$here"/nginx*.conf; do
 done
 for runbook in "$here"/runbooks/*.md; do place 644 "$runbook" "usr/share/doc/$name/runbooks/${runbook##*/}"; done
 for page in AUDIT INTEROPERATION WALKTHROUGH; do place 644 "$root/docs/$page.md" "usr/share/doc/$name/$page.md"; done
-# The two programs and what they share; one of Python finds it by the path of the link.
-place 644 "$here/desk_http.py" "usr/lib/$name/desk_http.py"
-for tool in desk-publish desk-again; do
+# The programs in Python and what they share; each finds it by the path of the link.
+for module in "$here"/desk_*.py; do place 644 "$module" "usr/lib/$name/${module##*/}"; done
+for tool in desk-publish desk-standby; do
     place 755 "$here/$tool" "usr/lib/$name/$tool"
     ln -s "../lib/$name/$tool" "$tree/usr/bin/$tool"
 done

@@ -47,7 +47,7 @@ as() {
     who=$1 path=$2 body=$3
     shift 3
     key=$((key + 1))
-    curl -sS --max-time 60 --fail-with-body -H "@$who.field" -H "Desk-Key: demo-$key" --data-binary "$body" "$@" \
+    curl -sS --max-time 60 --fail-with-body -H "@$who.field" -H "Desk-Key: $(date -u +%Y%m%dT%H%M%SZ)-demo-$key" --data-binary "$body" "$@" \
         "http://127.0.0.1:$port$path" > said 2> curl.err || fail "$who at $path: $(cat said curl.err)"
 }
 # image NUMBER ROW..: makes signed.NUMBER, the signed image of examples/ with these rows of SBAT below

@@ -1,6 +1,7 @@
-"""What desk-publish and desk-again share: a desk over HTTP, tokens in files, the ends of a run."""
+"""What desk-publish and desk-standby share: a desk that is read over HTTP, a token in a file, the ends of a run. Not proved."""
 from __future__ import annotations
 
+import argparse
 import http.client
 import os
 import re
@@ -8,7 +9,7 @@ import ssl
 import stat
 import time
 import urllib.parse
-from typing import Dict, NoReturn, Optional, Tuple
+from typing import NoReturn, Tuple
 
 DONE, REFUSED, WORDS, DEVICE = 0, 1, 2, 3
 # How long a desk's answer may take from its first byte on, and be: a list of 10,000 certificates has 625 MiB.
@@ -33,20 +34,25 @@ def broken(text: str) -> NoReturn:
     raise Stop(DEVICE, text)
 
 
-def read_token(path: str) -> str:
+def first_line_of_own(path: str, what: str) -> bytes:
     """The first line of a file that nobody else can read."""
     try:
         with open(path, "rb") as file:
             found, line = os.fstat(file.fileno()), file.readline(4096).rstrip(b"\r\n")
     except OSError as error:
-        broken(f"the token file {path}: {error.strerror}")
+        broken(f"{what} {path}: {error.strerror}")
     if found.st_uid not in (0, os.geteuid()):
-        wrong(f"the token file {path} is somebody else's")
+        wrong(f"{what} {path} is somebody else's")
     # systemd shows the mask of a credential's access list as the group's bits.
     given = os.environ.get("CREDENTIALS_DIRECTORY", "")
     others = 0o007 if given and os.path.realpath(path).startswith(os.path.realpath(given) + "/") else 0o077
     if stat.S_IMODE(found.st_mode) & others:
-        wrong(f"others can read the token file {path}: chmod 600")
+        wrong(f"others can read {what} {path}: chmod 600")
+    return line
+
+
+def read_token(path: str) -> str:
+    line = first_line_of_own(path, "the token file")
     if not re.fullmatch(rb"[!-~]{16,128}", line):
         wrong(f"the first line of {path} is no token")
     return line.decode()
@@ -69,59 +75,83 @@ def body_of(answer: http.client.HTTPResponse, seconds: int, limit: int) -> bytes
 
 
 class Http:
-    """A desk by its URL."""
+    """A desk by its URL, read with an officer's token, or with a certificate for which a proxy has one."""
 
-    def __init__(self, url: str, ca: Optional[str]):
+    def __init__(self, words: argparse.Namespace):
+        url = words.url
         parts = urllib.parse.urlsplit(url)
         if parts.scheme not in ("http", "https") or not parts.hostname or parts.path.strip("/") or parts.query:
             wrong(f"{url} is no URL of a desk")
-        if parts.scheme == "http" and parts.hostname != "127.0.0.1":
-            wrong(f"http to {parts.hostname} would show the token to others: use https")
+        if parts.scheme == "http" and (words.cert or parts.hostname != "127.0.0.1"):
+            wrong(f"{url}: a certificate takes https" if words.cert else f"http to {parts.hostname} would show the token to others: use https")
         self.host, self.port = parts.hostname, parts.port
-        self.tls = ssl.create_default_context(cafile=ca) if parts.scheme == "https" else None
+        self.tls = ssl.create_default_context(cafile=words.ca) if parts.scheme == "https" else None
+        self.fields = {} if words.cert else {"Desk-Token": read_token(words.token_file)}
+        if self.tls and words.cert:
+            first_line_of_own(words.cert_key, "the private key")
+            try:
+                # (a passphrase is asked of nobody)
+                self.tls.load_cert_chain(words.cert, words.cert_key, password="")
+            except (OSError, ssl.SSLError) as error:
+                broken(f"the certificate {words.cert} with {words.cert_key}: {error.strerror or error}")
 
-    def once(self, method: str, path: str, fields: Dict[str, str], body: bytes) -> Tuple[int, bytes]:
+    def once(self, path: str) -> Tuple[int, bytes]:
         if self.tls:
             connection: http.client.HTTPConnection = http.client.HTTPSConnection(self.host, self.port, timeout=330, context=self.tls)
         else:
             connection = http.client.HTTPConnection(self.host, self.port, timeout=330)
         try:
-            connection.request(method, path, body or (b"" if method == "POST" else None), fields)
+            connection.request("GET", path, headers=self.fields)
             answer = connection.getresponse()
             return answer.status, body_of(answer, ANSWER_SECONDS, ANSWER_BYTES)
         finally:
             connection.close()
 
-    def ask(self, token: str, path: str, fields: Optional[Dict[str, str]] = None, body: bytes = b"") -> Tuple[int, bytes]:
-        """A GET, or with fields a POST under its key. Where no answer came, or none of the desk's, it is asked again: it acts once."""
-        method = "GET" if fields is None else "POST"
+    def get(self, path: str) -> bytes:
+        """What the desk shows there. If no answer came, or none of the desk's, it is asked again."""
         said = ""
         for pause in (1, 2, 4, 8, 0):
             try:
-                status, answer = self.once(method, path, {"Desk-Token": token, **(fields or {})}, body)
+                status, answer = self.once(path)
             except (OSError, http.client.HTTPException) as error:
                 said = str(error) or type(error).__name__
             else:
-                if status not in (429, 502, 503, 504):
-                    return status, answer
+                if status == 200:
+                    return answer
                 said = f"{status} {answer[:200].decode(errors='replace')}"
+                if status not in (429, 502, 503, 504):
+                    break
             time.sleep(pause)
-        broken(f"{method} {path}: {said}")
+        broken(f"GET {path}: {said}")
 
-    def get(self, token: str, path: str) -> bytes:
-        status, answer = self.ask(token, path)
-        if status != 200:
-            broken(f"GET {path}: {status} {answer[:200].decode(errors='replace')}")
-        return answer
+    def lines_from(self, number: int) -> bytes:
+        """The minutes from this line on, 1,000 lines at most, or none."""
+        lines = self.get(f"/minutes/{number}")
+        numbered = (line.startswith(b"%d\t" % at) for at, line in enumerate(lines.split(b"\n")[:-1], number))
+        if lines and not (lines.endswith(b"\n") and all(numbered)):
+            broken(f"GET /minutes/{number}: what came isn't minutes")
+        return lines
 
-    def minutes(self, token: str) -> bytes:
-        """All of the minutes; a piece of them has 1,000 lines at most."""
+    def minutes(self) -> bytes:
+        """All of the minutes."""
         found, last = [], 0
-        while True:
-            lines = self.get(token, f"/minutes/{last + 1}")
-            if not lines:
-                return b"".join(found)
-            if not lines.endswith(b"\n") or any(not line.startswith(b"%d\t" % at) for at, line in enumerate(lines.split(b"\n")[:-1], last + 1)):
-                broken(f"GET /minutes/{last + 1}: what came isn't minutes")
+        while lines := self.lines_from(last + 1):
             found.append(lines)
             last += lines.count(b"\n")
+        return b"".join(found)
+
+
+def add_reader(parser: argparse.ArgumentParser) -> None:
+    """The options by which a desk is read over HTTP, but for its URL."""
+    parser.add_argument("--token-file", metavar="FILE", help="an officer's token, of mode 0600; with --url")
+    parser.add_argument("--cert", metavar="FILE", help="a certificate in its place, for a site that knows machines by theirs; with --url")
+    parser.add_argument("--cert-key", metavar="FILE", help="the private key of that certificate; with --cert")
+    parser.add_argument("--ca", metavar="FILE", help="certificates that the desk's has to come from, in PEM; with --url")
+
+
+def has_reader(parser: argparse.ArgumentParser, words: argparse.Namespace) -> None:
+    """Ends the run unless a token or a certificate with its key is named."""
+    if bool(words.token_file) == bool(words.cert):
+        parser.error("--url takes --token-file, or --cert with --cert-key")
+    if bool(words.cert) != bool(words.cert_key):
+        parser.error("--cert and --cert-key go together")

@@ -26,7 +26,10 @@ INPUT_AND_OUTPUT = [
     "Lines of `ranges`",
     "Lines of `facts`",
     "Lines of `list`",
+    "Lines of `impact`",
+    "Lists of `shim`",
     "Lines of `audit`",
+    "Input of `person` and `enrol`",
     "Signature lists (UEFI 2.10, section 32.4.1)",
     "SBAT text (shim's SBAT.md)",
 ]
@@ -39,11 +42,11 @@ synced.
 
 The desk neither makes nor checks signatures. `allowed` and `signed` mean that the digest of an image, or a certificate that it
 carries, is listed, and not that a signature was verified: use sbverify(1) for that. It keeps no image, only what `desk facts` prints
-of one. It keeps no time."""
+of one. It records no timestamps."""
 HTTP = """\
 `desk serve` reads one HTTP/1.1 request from each connection and writes one response; `desk answer` reads one from standard input.
 `Desk-Token` says who calls: it has the token whose SHA-256 `desk enrol` was given. `Desk-Key` names a command: sent again under the same key,
-the same command gets the same answer and acts once."""
+the same command gets the same answer and takes effect once."""
 ENVIRONMENT = """\
 `GLIBC_TUNABLES=glibc.malloc.hugetlb=1` makes the C library ask for large pages, so that `serve` takes its memory sooner. The service
 sets it."""
@@ -79,13 +82,15 @@ def breaking(code):
 
 
 def inline(text):
-    """The text in roff, with its `code` and **strong** words in bold."""
-    parts = re.split(r"`([^`]+)`|\*\*([^*]+)\*\*", text)
+    """The text in roff, with its `code` and **strong** words in bold, and *titles* in italics."""
+    parts = re.split(r"`([^`]+)`|\*\*([^*]+)\*\*|\*([^*]+)\*", text)
     found = ""
-    for before, code, strong in zip(parts[0::3], parts[1::3] + [None], parts[2::3] + [None]):
+    for before, code, strong, title in zip(parts[0::4], parts[1::4] + [None], parts[2::4] + [None], parts[3::4] + [None]):
         found += plain(before)
         if code or strong:
             found += "\\fB" + (breaking(code) if code else plain(strong)) + "\\fR"
+        if title:
+            found += "\\fI" + plain(title) + "\\fR"
     return found
 
 
@@ -273,6 +278,7 @@ def desk_page(said, date):
         ("/usr/share/doc/kovelamiru-desk/examples/", "Examples: a proxy with TLS, a site for client certificates, rules of nftables."),
         ("/usr/share/doc/kovelamiru-desk/runbooks/", "What to do on a bad day, a page each."),
         ("/var/lib/kovelamiru-publish/published", "What desk-publish published last."),
+        ("/var/lib/kovelamiru-standby/minutes.txt", "The minutes that desk-standby has fetched."),
     ):
         files += [".TP", f"\\fI{literal(name)}\\fR"] + filled(text)
     return page(
@@ -291,6 +297,7 @@ def desk_page(said, date):
             ("THE SERVICE", roff(section("packaging/README.md", "The service"))),
             ("WHO MAY CONNECT", roff(section("packaging/README.md", "Who may connect"))),
             ("BACKUP", roff(section("packaging/README.md", "Backup"))),
+            ("A STANDBY", roff(section("packaging/README.md", "A standby"))),
             ("WHAT MAKES A DESK GROW", roff(section("packaging/README.md", "What makes a desk grow"))),
             ("A PROXY IN FRONT", roff(section("packaging/README.md", "A proxy in front"))),
             ("PEOPLE WITH CERTIFICATES", roff(section("packaging/README.md", "People with certificates"))),

@@ -7,9 +7,7 @@ import { explained } from './refusals.js';
  * Runs a command; the place shows how it goes. The controls are off until it is over.
  * @param {import('./keys.js').Command} command
  * @param {HTMLElement} place of role status
- * @param {{ off?: any[], progress?: (sent: number, whole: number) => void, stop?: AbortSignal,
- *   refused?: (name: string) => void }} [how]
- * `refused` is called with the name of a refusal
+ * @param {{ off?: any[], progress?: (sent: number, whole: number) => void, stop?: AbortSignal }} [how]
  * @returns {Promise<any>} the desk's reply, or null where it gave none
  */
 export async function act(command, place, how = {}) {
@@ -20,7 +18,6 @@ export async function act(command, place, how = {}) {
     if (command.isGone()) return null;
     fill(place, answer.kind === 'value' ? null : outcome(command, answer));
     if (!place.isConnected) elsewhere(command, answer);
-    if (answer.kind === 'refused') how.refused?.(answer.name);
     return answer.kind === 'value' ? answer.value : null;
 }
 

@@ -1,11 +1,10 @@
 // What is asked before something goes out: what the page knows of the desk, whether the officer means
-// what looks like a slip, and what comes after a proposal.
+// what looks like a slip, what comes after a proposal, and the form of one.
 
 import { get } from './api.js';
-import { act } from './act.js';
-import { box, fill, h, p, strong, sure } from './dom.js';
+import { act, refusalBox } from './act.js';
+import { answers, box, buttons, fill, formPart, h, p, strong, sure } from './dom.js';
 import { knownOf } from './doubts.js';
-import { me } from './session.js';
 import { changed, standing } from './standing.js';
 import { digest, grouped } from './words.js';
 
@@ -72,7 +71,28 @@ export async function propose(command, said, off) {
             p(h('a', { href: `#/proposals/${Number(reply.proposal)}` }, `Look at proposal ${reply.proposal}`)),
         ),
     );
-    const all = await get('/proposals');
-    const mine = all.kind === 'value' ? all.value.find((/** @type {any} */ it) => it.number === reply.proposal) : null;
-    if (mine) me.name = mine.officer;
+}
+
+/**
+ * A form whose button proposes what `make` gives: what is wrong with it, or a command and doubts.
+ * @param {string} title
+ * @param {any[]} body
+ * @param {(all: Known) => { fault: string } | { doubts: Doubt[], command: () => Command }} make
+ */
+export function form(title, body, make) {
+    const said = answers();
+    const fault = h('p', { class: 'fault', role: 'status' });
+    const go = h('button', { type: 'submit', class: 'main' }, 'Propose');
+    const submit = async (/** @type {Event} */ event) => {
+        event.preventDefault();
+        fill(said);
+        fault.textContent = '';
+        const all = await known();
+        if ('kind' in all) return fill(said, refusalBox(all));
+        const made = make(all);
+        if ('fault' in made) return (fault.textContent = made.fault);
+        if (await settled(made.doubts)) await propose(made.command(), said, [go]);
+        return undefined;
+    };
+    return formPart(title, submit, [body, fault, buttons(go)], said);
 }

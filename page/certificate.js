@@ -11,7 +11,7 @@ export const MOST_CERTIFICATE = 65536;
 
 /**
  * A certificate from a file.
- * @typedef {{ der: Uint8Array, name: string, subject: string, issuer: string, key: string, authority: boolean }} Certificate
+ * @typedef {import('./signer.js').Certificate & { der: Uint8Array }} Certificate
  * `name` is the SHA-256 of its TBSCertificate, '' where the browser hashes only over https
  */
 

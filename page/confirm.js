@@ -47,9 +47,8 @@ const same = (one, other) => JSON.stringify(one) === JSON.stringify(other);
  * @param {Item} shown the proposal as the view has it
  * @param {any[]} off other controls that are off meanwhile
  * @param {(...first: any[]) => void} again shows the view anew, below these
- * @param {(name: string) => void} refused is called with the name of a refusal
  */
-export function confirmation(shown, off, again, refused) {
+export function confirmation(shown, off, again) {
     const said = answers();
     const look = async (/** @type {string} */ text) => {
         confirm.disabled = true;
@@ -68,7 +67,7 @@ export function confirmation(shown, off, again, refused) {
         const reply = await act(
             new Command(`Confirm proposal ${shown.number}`, `/proposals/${shown.number}/confirm`, ''),
             said,
-            { off: [confirm, ...off], refused },
+            { off: [confirm, ...off] },
         );
         changed();
         return reply ? again(confirmed(reply)) : undefined;

@@ -120,7 +120,15 @@ export function button(text, onclick, kind) {
 export function heading(place, text, ...beside) {
     const title = h('h1', { tabindex: '-1' }, text);
     place.append(h('div', { class: 'heading' }, title, ...beside));
-    document.title = `${text} · Kovelamiru`;
+    titled(`${text} · Kovelamiru`);
+}
+
+let [title, waits] = ['Kovelamiru', 0];
+
+/** The title of the window, with the count of what waits for the person. @param {string} [text] @param {number} [count] */
+export function titled(text = title, count = waits) {
+    [title, waits] = [text, count];
+    document.title = count > 0 ? `(${count}) ${text}` : text;
 }
 
 /**

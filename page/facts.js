@@ -1,7 +1,9 @@
 // The facts that the desk keeps of an image, and whether a file at hand is that image.
 
+import { sameFile } from './compare.js';
 import { box, fill, h, quiet, section, strong } from './dom.js';
 import { fileField } from './files.js';
+import { lookPart, noFacts, postImage } from './images.js';
 import { digest, grouped } from './words.js';
 
 /** @typedef {import('./requests.js').Request} Request */
@@ -102,20 +104,22 @@ export function componentsPart(it, now) {
     );
 }
 
-/** Whether a file at hand is the one of this request. @param {Request} it */
+/** Whether a file at hand is the one of this request, and what differs. @param {Request} it */
 export function comparePart(it) {
     const said = h('div', { class: 'answer', role: 'status' });
-    const hint = 'It stays in this browser: only its SHA-256 is compared.';
-    const { place } = fileField('Compare a file with this request', hint, (chosen) => {
-        fill(said, chosen ? compared(chosen.sha256, it) : null);
+    const bar = h('div', { class: 'sending' });
+    let turn = 0;
+    const hint = 'Its SHA-256 is compared here. Another file is read by the desk, which keeps nothing of it.';
+    const { place } = fileField('Compare a file with this request', hint, async (chosen) => {
+        const mine = ++turn;
+        fill(said);
+        if (!chosen) return;
+        const same = sameFile(it, chosen.sha256);
+        if (same?.kind === 'file') return fill(said, box('good', strong('The same file. '), same.text));
+        fill(said, quiet('The desk reads it…'));
+        const answer = await postImage('/facts', chosen, bar);
+        const told = answer.kind === 'value' ? await lookPart(chosen, answer.value, it) : noFacts(answer);
+        if (mine === turn) fill(said, told);
     });
-    return section('Do you have this file?', place, said);
-}
-
-/** @param {string} sha256 @param {Request} it */
-function compared(sha256, it) {
-    if (sha256 === '') return box('care', 'This browser works out no SHA-256 here. Compare that of sha256sum by eye.');
-    if (sha256 === it.file) return box('good', strong('The same. '), 'This is the file that was submitted.');
-    if (sha256 === it.returned) return box('good', strong('The same. '), 'This is the signed file that was returned.');
-    return box('bad', strong('Another file. '), 'It was neither submitted nor returned for this request. Don’t vote by it.');
+    return section('Do you have this file?', place, bar, said);
 }

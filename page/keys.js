@@ -5,13 +5,12 @@
 // that says the same.
 
 import { PAUSES, pause, post, settles } from './api.js';
+import { hex } from './words.js';
 
-/** @returns {string} 128 random bits in hexadecimal digits */
+/** @returns {string} the time and 64 random bits, as deskctl makes one: the minutes get a time by it */
 export function newKey() {
-    return Array.from(
-        crypto.getRandomValues(new Uint8Array(16)),
-        (byte) => byte.toString(16).padStart(2, '0'),
-    ).join('');
+    const time = new Date().toISOString().replace(/\.\d+|[-:]/g, '');
+    return `${time}-${hex(crypto.getRandomValues(new Uint8Array(8)))}`;
 }
 
 /** @typedef {import('./api.js').Answer} Answer */

@@ -5,7 +5,10 @@ import { known, settled } from './asking.js';
 import { certificateFacts, certificateFile } from './certificate.js';
 import { answers, box, buttons, field, fill, h, p, strong, sure } from './dom.js';
 import { digestDoubts } from './doubts.js';
+import { fileField } from './files.js';
+import { besideOf, noFacts, postImage } from './images.js';
 import { Command, jsonCommand } from './keys.js';
+import { imageDoubts, knownBodies, signerDoubts } from './signer.js';
 import { changed, standing } from './standing.js';
 import { digestTyped } from './words.js';
 
@@ -22,9 +25,14 @@ export function listing(again) {
 function certificateForm(done) {
     const said = answers();
     const fault = h('p', { class: 'fault', role: 'status' });
+    const bar = h('div', { class: 'sending' });
     /** @type {import('./certificate.js').Certificate | null} */
     let chosen = null;
+    /** @type {import('./files.js').Chosen | null} */
+    let signed = null;
     const file = certificateFile('Certificate', (it) => (chosen = it));
+    const hint = 'If you have one: does it carry this certificate? The desk reads it, and keeps nothing of it.';
+    const image = fileField('An image that its key signed', hint, (it) => (signed = it));
     const go = h('button', { type: 'submit', class: 'main' }, 'List this certificate');
     return h('form', { class: 'act', novalidate: true, onsubmit: async (/** @type {Event} */ event) => {
         event.preventDefault();
@@ -32,24 +40,43 @@ function certificateForm(done) {
         if (!chosen) return file.input.focus();
         const it = chosen;
         go.disabled = true;
-        const now = await standing();
+        fill(said);
+        const looked = await looks(it, signed, bar);
         go.disabled = false;
-        if (now.kind !== 'value') return fill(said, refusalBox(now));
-        if (!(await meant(it, now.value.revoked.certificates.has(it.name)))) return undefined;
+        if ('shown' in looked) return fill(said, looked.shown);
+        if (!(await meant(it, looked))) return undefined;
         return done(await act(new Command('List a certificate', '/db/certificates', it.der), said, { off: [go] }));
-    } }, file.place, file.said, fault, buttons(go), said);
+    } }, file.place, file.said, image.place, bar, fault, buttons(go), said);
 }
 
-/** Asks before a certificate is listed. @param {import('./certificate.js').Certificate} it @param {boolean} revoked */
-function meant(it, revoked) {
+/**
+ * What there is to ask about, or what is shown where a part of it can't be read.
+ * @param {import('./certificate.js').Certificate} it
+ * @param {import('./files.js').Chosen | null} signed
+ * @param {HTMLElement} bar
+ * @returns {Promise<{ doubts: import('./signer.js').Doubt[], image: import('./signer.js').Beside | null } | { shown: any }>}
+ */
+async function looks(it, signed, bar) {
+    const now = await standing();
+    if (now.kind !== 'value') return { shown: refusalBox(now) };
+    const facts = signed && await postImage('/facts', signed, bar);
+    if (signed && facts && facts.kind !== 'value') return { shown: [p(`${signed.file.name}:`), noFacts(facts)] };
+    const image = signed && facts ? await besideOf(signed, facts.value) : null;
+    const known = await knownBodies(now.value, image);
+    if ('kind' in known) return { shown: refusalBox(known) };
+    const doubts = signerDoubts(it, now.value, known);
+    return { doubts: [...doubts, ...(image ? imageDoubts(it, image) : [])], image };
+}
+
+/** Asks before a certificate is listed. @param {import('./certificate.js').Certificate} it @param {any} looked */
+function meant(it, { doubts, image }) {
+    const carries = image?.carried.includes(it.name) ? p(`${image.file} carries it.`) : null;
     return sure(
         'List this certificate?',
         [
             certificateFacts(it),
-            revoked ? box('care', p(strong('It is revoked. '), 'Images that carry it stay barred, listed or not.')) : null,
-            it.authority
-                ? box('care', p(strong('It is a CA’s. '), 'In db it lets firmware start whatever any certificate under it signed.'))
-                : null,
+            doubts.map((/** @type {import('./signer.js').Doubt} */ one) => box('care', p(strong(`${one.title} `), one.text))),
+            carries,
             p('Each image that carries it is then allowed, unless something bars it. No other officer confirms it.'),
         ],
         'List it',

@@ -3,6 +3,7 @@
 
 import { get } from './api.js';
 import { act, anew, read, refusalBox } from './act.js';
+import { whyLink } from './calls.js';
 import { answers, box, button, buttons, fill, h, heading, p, quiet, section, strong, sure } from './dom.js';
 import { download } from './files.js';
 import { jsonCommand } from './keys.js';
@@ -87,7 +88,7 @@ function allowed(place, now) {
         empty: 'No certificate is listed.',
         row: (/** @type {import('./standing.js').Listed} */ it) => [
             it.subject || 'no common name',
-            digest(it.tbs, 'the certificate'),
+            ['', digest(it.tbs, 'the certificate'), ' ', whyLink({ hex: it.tbs }, `certificate ${it.subject || it.tbs.slice(0, 12)}`)],
             off('certificate', it.tbs, `certificate ${it.subject || it.tbs.slice(0, 12)}`),
         ],
     });
@@ -97,7 +98,10 @@ function allowed(place, now) {
         head: ['Digest', ''],
         kind: 'short wide',
         empty: 'No digest is listed.',
-        row: (/** @type {string} */ it) => [digest(it, 'the digest'), off('digest', it, `digest ${it.slice(0, 12)}`)],
+        row: (/** @type {string} */ it) => [
+            ['', digest(it, 'the digest'), ' ', whyLink({ hex: it }, `digest ${it.slice(0, 12)}`)],
+            off('digest', it, `digest ${it.slice(0, 12)}`),
+        ],
     });
     digests.set([...now.listed.digests]);
     return section(
@@ -125,7 +129,10 @@ function revoked(now) {
         head: ['Kind', 'SHA-256'],
         kind: 'short wide',
         empty: 'Nothing is revoked.',
-        row: (/** @type {string[]} */ [kind, it]) => [kind, digest(it, `the ${kind.toLowerCase()}`)],
+        row: (/** @type {string[]} */ [kind, it]) => [
+            kind,
+            ['', digest(it, `the ${kind.toLowerCase()}`), ' ', whyLink({ hex: it }, `${kind.toLowerCase()} ${it.slice(0, 12)}`)],
+        ],
     });
     table.set(rows);
     return section(
@@ -142,7 +149,10 @@ function levelPart(now) {
         head: ['Component', 'Generation'],
         kind: 'short',
         empty: 'No component has a generation yet.',
-        row: (/** @type {[string, number]} */ [name, generation]) => [h('code', {}, name), grouped(generation)],
+        row: (/** @type {[string, number]} */ [name, generation]) => [
+            ['', h('code', {}, name), ' ', whyLink({ component: name }, name)],
+            grouped(generation),
+        ],
     });
     table.set([...now.level.names]);
     return section(

@@ -3,6 +3,8 @@
 
 import { lostBox, refusalBox } from './act.js';
 import { fill, h, p, quiet, sure } from './dom.js';
+import { historyView } from './history.js';
+import { forgetMinutes } from './kept.js';
 import { forgetKeys, onChange, unanswered } from './keys.js';
 import { listsView } from './lists.js';
 import { proposalView } from './proposal.js';
@@ -15,6 +17,8 @@ import { submitView } from './send.js';
 import { me, role, signIn, signOut, tokenFault } from './session.js';
 import { changed } from './standing.js';
 import { verdictView } from './verdict.js';
+import { beginWaiting, count, endWaiting, looked } from './waiting.js';
+import { whyView } from './why.js';
 import { isNumber } from './words.js';
 
 /** @param {string} id @returns {any} */
@@ -28,6 +32,7 @@ const VIEWS = [
     ['propose', 'Propose', () => me.officer],
     ['lists', 'Lists', () => true],
     ['check', 'Check an image', () => true],
+    ['history', 'History', () => me.officer],
     ['report', 'Report', () => me.officer],
 ];
 
@@ -39,6 +44,7 @@ const SHOWS = {
     propose: proposeView,
     lists: listsView,
     check: verdictView,
+    history: (place, words) => (words.length > 0 ? whyView(place, words) : historyView(place)),
     report: reportView,
 };
 
@@ -55,18 +61,24 @@ function show() {
             ([one, text]) => h('a', { href: `#/${one}`, 'aria-current': one === mine ? 'page' : null }, text),
         ),
     );
-    part('who').textContent = role();
+    part('who').textContent = `${me.name}, ${role()}`;
+    if (mine === 'requests') looked();
     const place = h('div', { class: 'view' });
     fill(part('main'), place);
     scrollTo(0, 0);
     SHOWS[mine](place, mine === name ? words : []);
 }
 
+/** How many commands were under way. */
+let under = 0;
+
 /** The commands whose answer is missing, on whatever view the person is. */
 function waiting() {
     const lost = [...unanswered].filter((command) => command.state === 'lost');
     const elsewhere = lost.filter(() => !document.querySelector('main .answer .box.care'));
     fill(part('waiting'), elsewhere.map(lostBox));
+    if (unanswered.size < under && me.known) count();
+    under = unanswered.size;
 }
 
 async function enter(/** @type {Event} */ event) {
@@ -90,6 +102,7 @@ async function enter(/** @type {Event} */ event) {
     field.value = '';
     fill(said);
     show();
+    beginWaiting();
     return part('main').querySelector('h1')?.focus();
 }
 
@@ -112,7 +125,8 @@ function forget() {
     forgetKeys();
     signOut();
     changed();
-    document.title = 'Kovelamiru';
+    forgetMinutes();
+    endWaiting();
     for (const open of document.querySelectorAll('dialog')) open.close();
     for (const place of ['main', 'elsewhere', 'waiting', 'views', 'who', 'sign-in-answer']) fill(part(place));
     part('token').value = '';

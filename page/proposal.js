@@ -3,6 +3,7 @@
 import { get } from './api.js';
 import { act, anew, read, reading, refusalBox } from './act.js';
 import { doubtList, known } from './asking.js';
+import { whyLink } from './calls.js';
 import { confirmation, proposalDoubts } from './confirm.js';
 import { box, button, buttons, fill, h, heading, p, section, strong, sure } from './dom.js';
 import { impactPart } from './impact.js';
@@ -10,6 +11,7 @@ import { itemsPart } from './items.js';
 import { Command } from './keys.js';
 import { explained } from './refusals.js';
 import { me } from './session.js';
+import { closedBy } from './why.js';
 import { STATES, badge } from './words.js';
 
 /** @typedef {import('./items.js').Item} Item */
@@ -39,7 +41,8 @@ async function whole(place, it) {
     const told = isOpen
         ? `${it.officer} proposed it. It changes nothing until another officer confirms it.`
         : `${it.officer} proposed it. ${STATES[it.state]?.[1] ?? ''}`;
-    place.append(p(badge(it.state), ' ', told), impact, section('What it names', items), decision);
+    const why = whyLink({ proposal: String(it.number) }, `proposal ${it.number}`);
+    place.append(p(badge(it.state), ' ', told, ' ', why), isOpen ? '' : closedBy(it.number), impact, section('What it names', items), decision);
     const [all, looked] = await Promise.all([known(), isOpen ? get(`/proposals/${it.number}/impact`) : null]);
     fill(items, itemsPart(it, 'kind' in all ? null : all), 'kind' in all ? refusalBox(all) : null);
     if (!looked) return;
@@ -69,7 +72,7 @@ function doubtPart(doubts) {
  * @param {(...said: any[]) => void} again
  */
 function actions(it, can, compared, again) {
-    const own = me.name !== '' && it.officer === me.name;
+    const own = it.officer === me.name;
     const drop = button('Drop…', async () => {
         if (!(await sure(
             `Drop proposal ${it.number}?`,
@@ -83,11 +86,7 @@ function actions(it, can, compared, again) {
         );
         if (reply) again(h('div', { role: 'status' }, box('good', strong('Dropped.'), ' It changed nothing.')));
     });
-    const { confirm, said } = confirmation(it, [drop], again, (name) => {
-        if (name !== 'OwnProposal') return;
-        me.name = it.officer;
-        again(refusalBox({ kind: 'refused', status: 409, name: 'OwnProposal', number: 38 }));
-    });
+    const { confirm, said } = confirmation(it, [drop], again);
     const look = button('Look again', () => again());
     return h(
         'section',

@@ -4,6 +4,7 @@ import { get } from './api.js';
 import { read } from './act.js';
 import { h, heading, quiet } from './dom.js';
 import { named } from './impact.js';
+import { withYou } from './session.js';
 import { choices, paged } from './table.js';
 import { badge } from './words.js';
 
@@ -34,7 +35,7 @@ function list(place, proposals) {
         row: (/** @type {Proposal} */ it) => [
             ['number', it.number],
             ['title', h('a', { href: `#/proposals/${it.number}` }, named(it))],
-            ['from', it.officer],
+            ['from', withYou(it.officer)],
             badge(it.state),
         ],
     });

@@ -1,81 +1,15 @@
 // What an officer proposes: images, a certificate, a generation. Before it goes out the page asks
 // back about what looks like a slip; the officer decides, and the desk judges.
 
-import { read, refusalBox } from './act.js';
-import { get } from './api.js';
-import { known, propose, settled } from './asking.js';
-import { answers, buttons, field, fill, formPart, h, heading, quiet } from './dom.js';
-import { certificateDoubts, digestDoubts, generationDoubts, stampDoubts, stampOf } from './doubts.js';
+import { form } from './asking.js';
 import { certificateField } from './certificate.js';
+import { field, fill, h, heading, quiet } from './dom.js';
+import { certificateDoubts, generationDoubts, stampDoubts, stampOf } from './doubts.js';
+import { imagesForm } from './imagesform.js';
 import { importForm } from './importing.js';
-import { Command, jsonCommand } from './keys.js';
+import { jsonCommand } from './keys.js';
 import { standing } from './standing.js';
-import { counted, digestTyped, isNumber } from './words.js';
-
-/** @typedef {import('./doubts.js').Doubt} Doubt */
-/** @typedef {import('./doubts.js').Known} Known */
-
-/**
- * A form whose button proposes what `make` gives: what is wrong with it, or a command and doubts.
- * @param {string} title
- * @param {any[]} body
- * @param {(all: Known) => { fault: string } | { doubts: Doubt[], command: () => Command }} make
- */
-function form(title, body, make) {
-    const said = answers();
-    const fault = h('p', { class: 'fault', role: 'status' });
-    const go = h('button', { type: 'submit', class: 'main' }, 'Propose');
-    const submit = async (/** @type {Event} */ event) => {
-        event.preventDefault();
-        fill(said);
-        fault.textContent = '';
-        const all = await known();
-        if ('kind' in all) return fill(said, refusalBox(all));
-        const made = make(all);
-        if ('fault' in made) return (fault.textContent = made.fault);
-        if (await settled(made.doubts)) await propose(made.command(), said, [go]);
-        return undefined;
-    };
-    return formPart(title, submit, [body, fault, buttons(go)], said);
-}
-
-/** @param {string} [number] of the request whose image is meant */
-function imagesForm(number) {
-    const input = h('textarea', { rows: 3, spellcheck: 'false', class: 'mono' });
-    const meant = h('div', { role: 'status' });
-    if (isNumber(number)) read(meant, () => get(`/requests/${number}`), (it) => {
-        input.value ||= [...new Set([it.digest, it.signing])].join('\n');
-        meant.append(quiet(`For request ${it.number}: ${it.title}`));
-    });
-    return form('Revoke images by their digests', [
-        meant,
-        field(
-            'Digests, one a line',
-            input,
-            'Authenticode digests, as a request or “desk facts” has them. Several become one proposal.',
-        ),
-    ], (all) => {
-        const lines = input.value.split('\n').filter((/** @type {string} */ line) => line.trim() !== '');
-        const typed = lines.map(digestTyped);
-        const wrong = typed.indexOf(null);
-        if (lines.length === 0) return { fault: 'Give a digest.' };
-        if (wrong >= 0) return { fault: `Line ${wrong + 1} isn’t 64 hexadecimal digits.` };
-        const given = [...new Set(typed)].map(String);
-        // Both digests of an image are there: the doubt that there are two is settled.
-        const doubts = given.flatMap((one) => digestDoubts(one, all)).filter(
-            (it) => !it.use?.every((one) => given.includes(one)),
-        );
-        const csv = `kind,value,generation\n${given.map((one) => `sha256,${one},\n`).join('')}`;
-        return {
-            doubts,
-            command: () => (given.length === 1 ? jsonCommand(
-                'Propose to revoke a digest',
-                '/dbx/digests',
-                { digest: given[0] },
-            ) : new Command(`Propose to revoke ${given.length} digests`, '/imports/csv', csv)),
-        };
-    });
-}
+import { counted } from './words.js';
 
 function certificateForm() {
     const certificate = certificateField();

@@ -80,7 +80,7 @@ export const REFUSALS = {
         'Choose the file that was made by signing this request’s image; compare digests by `desk facts`.',
     ],
     Revoked: [
-        'The image is revoked.',
+        'The image is barred: revoked, or below the level.',
         'Its digest, a certificate that it carries or a component’s generation is barred. Build a mended image; nothing takes a revocation back.',
     ],
     NotListed: [

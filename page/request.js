@@ -2,6 +2,7 @@
 
 import { get } from './api.js';
 import { anew, read } from './act.js';
+import { whyLink } from './calls.js';
 import { fill, h, heading, p, quiet, section } from './dom.js';
 import { comparePart, componentsPart, factsPart } from './facts.js';
 import { reviewForm, withdrawForm } from './review.js';
@@ -28,7 +29,6 @@ async function show(place, number, ...first) {
 
 /** @param {HTMLElement} place @param {Request} it */
 function whole(place, it) {
-    if (me.submitter && !me.reviewer) me.name = it.submitter;
     const again = (/** @type {any} */ said) => show(place, it.number, said);
     const today = section('What the lists say today');
     const facts = h('div', {}, factsPart(it, null));
@@ -70,6 +70,7 @@ function actions(it, again) {
                     it.digest !== it.signing ? 's, both the one of today and the one that a padded signature holds' : '',
                     '; another officer has to confirm it.',
                 ),
+                p(whyLink({ hex: it.file }, `request ${it.number}`), ' it is barred or allowed, by the minutes.'),
             ),
         );
     }
@@ -78,7 +79,7 @@ function actions(it, again) {
 
 /** @param {Request} it @param {(said: any) => void} again */
 function withdrawPart(it, again) {
-    const may = ['open', 'approved'].includes(it.state) && me.submitter && (me.name === '' || me.name === it.submitter);
+    const may = ['open', 'approved'].includes(it.state) && me.name === it.submitter;
     return may ? withdrawForm(it, again) : '';
 }
 
@@ -89,7 +90,7 @@ function findings(it, now) {
     if (barred) found.push(['bad', `Barred today: ${ruleWords(barred.verdict, barred)}.`]);
     found.push(listing(it, now));
     if (it.components.length === 0) {
-        found.push(['care', 'It has no SBAT component: shim refuses such an image, and no level can bar it.']);
+        found.push(['care', 'It has no SBAT component: no level can bar it, and as shim’s own second stage shim refuses it.']);
     } else if (barred?.verdict !== 'sbat') {
         found.push(['good', 'Each of its components is at the level or above it, or isn’t in the level.']);
     }

@@ -3,7 +3,7 @@
 import { get } from './api.js';
 import { read } from './act.js';
 import { field, h, heading, quiet } from './dom.js';
-import { me } from './session.js';
+import { me, withYou } from './session.js';
 import { choices, paged } from './table.js';
 import { badge, counted, size } from './words.js';
 
@@ -42,7 +42,6 @@ export function requestsView(place) {
 
 /** @param {HTMLElement} place @param {Request[]} requests */
 function queue(place, requests) {
-    if (me.submitter && !me.reviewer && requests.length > 0) me.name = requests[0].submitter;
     const last = me.queue;
     last.state ||= first();
     const table = paged({
@@ -55,7 +54,7 @@ function queue(place, requests) {
         row: (/** @type {Request} */ it) => [
             ['number', it.number],
             ['title', h('a', { href: `#/requests/${it.number}` }, it.title)],
-            ['from', it.submitter],
+            ['from', withYou(it.submitter)],
             badge(it.state),
             ['from', votes(it)],
             ['size', size(it.length).replace(/ \(.*/, '')],

@@ -2,7 +2,6 @@
 
 import { act } from './act.js';
 import { answers, box, button, buttons, field, h, p, section, strong, sure } from './dom.js';
-import { get } from './api.js';
 import { Command, jsonCommand } from './keys.js';
 import { me } from './session.js';
 import { textFault } from './words.js';
@@ -15,11 +14,11 @@ const NOTE = 200;
 /** @param {Request} it @param {(said: any) => void} again shows the request anew */
 export function reviewForm(it, again) {
     const title = 'Your vote';
-    if (me.name !== '' && it.submitter === me.name) return section(
+    if (it.submitter === me.name) return section(
         title,
         p('You submitted this request, so another reviewer has to vote.'),
     );
-    if (me.name !== '' && it.votes.some((vote) => vote.reviewer === me.name)) return section(
+    if (it.votes.some((vote) => vote.reviewer === me.name)) return section(
         title,
         p('You have voted. A vote stands as it was given.'),
     );
@@ -39,10 +38,9 @@ export function reviewForm(it, again) {
         const reply = await act(
             command,
             said,
-            { off: [yes, no, note], refused: (name) => name === 'OwnRequest' && (me.name = it.submitter) },
+            { off: [yes, no, note] },
         );
         if (!reply) return undefined;
-        await learn(it);
         return again(box('good', strong(`Your vote of ${vote} is in. `), told(reply.state)));
     };
     const yes = button('Vote yes', () => vote('yes'), 'main');
@@ -76,17 +74,6 @@ function told(state) {
     return 'The request stays open until another reviewer agrees.';
 }
 
-/** The one reviewer who is new among the votes is the caller. @param {Request} before */
-async function learn(before) {
-    if (me.name !== '') return;
-    const answer = await get(`/requests/${before.number}`);
-    if (answer.kind !== 'value') return;
-    const fresh = answer.value.votes.filter(
-        (/** @type {any} */ vote) => !before.votes.some((old) => old.reviewer === vote.reviewer),
-    );
-    if (fresh.length === 1) me.name = fresh[0].reviewer;
-}
-
 /** @param {Request} it @param {(said: any) => void} again */
 export function withdrawForm(it, again) {
     const said = answers();
@@ -101,14 +88,11 @@ export function withdrawForm(it, again) {
             said,
             { off: [withdraw] },
         );
-        if (reply) {
-            me.name = it.submitter;
-            again(box('good', strong('Withdrawn.')));
-        }
+        if (reply) again(box('good', strong('Withdrawn.')));
     });
     return section(
         'Withdraw it',
-        p(me.name === '' ? `Its submitter, ${it.submitter}, can take it back.` : 'You submitted it, and can take it back.'),
+        p('You submitted it, and can take it back.'),
         buttons(withdraw),
         said,
     );

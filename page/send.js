@@ -6,7 +6,6 @@ import { act, refusalBox } from './act.js';
 import { answers, box, button, buttons, field, fill, h, heading, p, section, strong } from './dom.js';
 import { fileField } from './files.js';
 import { Command } from './keys.js';
-import { me } from './session.js';
 import { digest, textFault } from './words.js';
 
 /** @typedef {import('./requests.js').Request} Request */
@@ -126,7 +125,6 @@ async function arrived(said, number, sha256, form) {
         ),
     ),
         answer.kind === 'value' ? compared(sha256, answer.value.file) : refusalBox(answer));
-    if (answer.kind === 'value') me.name = answer.value.submitter;
 }
 
 /** @param {Request} it @param {(said: any) => void} again */

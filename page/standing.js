@@ -4,13 +4,16 @@ import { get } from './api.js';
 import { tbsOf } from './der.js';
 import { sha256 } from './files.js';
 import { digestIn, entriesOf } from './siglist.js';
-import { subjectOf } from './subject.js';
+import { subjectIn, subjectOf } from './subject.js';
 
 /**
- * @typedef {{ tbs: string, subject: string, fingerprint: string, length: number }} Listed
+ * @typedef {{ tbs: string, subject: string, of: string, fingerprint: string, length: number }} Listed
+ * `of` is its subject's name in DER, in hexadecimal digits
  * @typedef {{ stamp: number, names: Map<string, number> }} Level
  * @typedef {{ listed: { digests: Set<string>, certificates: Map<string, Listed> },
- *   revoked: { digests: Set<string>, certificates: Set<string> }, level: Level, bytes: { db: number, dbx: number } }} Standing
+ *   revoked: { digests: Set<string>, certificates: Set<string> }, level: Level, bytes: { db: number, dbx: number },
+ *   bodies: Uint8Array[] }} Standing
+ * `bodies` has the listed certificates as they are
  */
 
 /** How long what was read is taken as it was, in milliseconds. */
@@ -41,6 +44,7 @@ export async function standing() {
         listed: await listedOf(db),
         revoked: revokedOf(dbx),
         bytes: { db: db.length, dbx: dbx.length },
+        bodies: entriesOf(db).filter(({ kind }) => kind === 'x509').map(({ body }) => body),
     };
     if (mine === turn) kept = { at, value };
     return { kind: 'value', value };
@@ -75,7 +79,13 @@ async function listedOf(db) {
         const name = await sha256(tbs);
         certificates.set(
             name,
-            { tbs: name, subject: subjectOf(tbs), fingerprint: await sha256(entry.body), length: entry.body.length },
+            {
+                tbs: name,
+                subject: subjectOf(tbs),
+                of: subjectIn(tbs),
+                fingerprint: await sha256(entry.body),
+                length: entry.body.length,
+            },
         );
     }
     return { digests, certificates };

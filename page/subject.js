@@ -2,6 +2,7 @@
 // whether it is a CA's. A look for people: no signature is checked.
 
 import { element, elements, isShortest } from './der.js';
+import { hex } from './words.js';
 
 /** @typedef {import('./der.js').Element} Element */
 
@@ -26,7 +27,7 @@ const KEYS = { '1.3.101.112': 'Ed25519', '1.3.101.113': 'Ed448', '1.2.840.113549
 const BASIC_CONSTRAINTS = '2.5.29.19';
 
 /** The number in dots of an OBJECT IDENTIFIER (X.690, 8.19), or ''. @param {Element | undefined | null} one */
-function identifier(one) {
+export function identifier(one) {
     if (!one || one.tag !== 0x06) return '';
     const arcs = [];
     let arc = 0;
@@ -42,7 +43,7 @@ function identifier(one) {
 }
 
 /** The elements within one, or none. @param {Element | undefined | null} one @returns {Element[]} */
-const within = (one) => (one && elements(one.content)) ?? [];
+export const within = (one) => (one && elements(one.content)) ?? [];
 
 /** @param {Element[]} found @param {number[]} tags */
 const hasTags = (found, tags) => found.length === tags.length && tags.every((tag, at) => found[at].tag === tag);
@@ -101,7 +102,7 @@ function attributes(name) {
 }
 
 /** A name in a line. @param {Element | undefined} name */
-const nameOf = (name) => attributes(name).map(([type, text]) => `${type}=${text}`).join(', ') || '(empty)';
+export const nameOf = (name) => attributes(name).map(([type, text]) => `${type}=${text}`).join(', ') || '(empty)';
 
 /**
  * The common name of a certificate's subject, or '' if it has none that reads.
@@ -110,6 +111,12 @@ const nameOf = (name) => attributes(name).map(([type, text]) => `${type}=${text}
 export function subjectOf(tbs) {
     const [, , , , subject] = partsOf(element(tbs));
     return attributes(subject).find(([type]) => type === 'CN')?.[1] ?? '';
+}
+
+/** The name of a certificate's subject in DER, in hexadecimal digits. @param {Uint8Array} tbs */
+export function subjectIn(tbs) {
+    const [, , , , subject] = partsOf(element(tbs));
+    return subject ? hex(subject.whole) : '';
 }
 
 /** @param {Element} key a SubjectPublicKeyInfo */
@@ -140,19 +147,25 @@ function isAuthority(extensions) {
 }
 
 /**
- * What a certificate says of itself.
- * @param {Uint8Array} bytes for which `isCertificate` holds
- * @returns {{ tbs: Uint8Array, subject: string, issuer: string, key: string, authority: boolean }}
+ * What a certificate says of itself. `of` and `by` are its two names in DER, `serial` its number, in
+ * hexadecimal digits: what signatures and other certificates name it by.
+ * @typedef {{ tbs: Uint8Array, subject: string, issuer: string, key: string, authority: boolean, of: string, by: string,
+ *   serial: string }} Told
  */
+
+/** @param {Uint8Array} bytes for which `isCertificate` holds @returns {Told} */
 export function told(bytes) {
     const [tbs] = within(element(bytes));
     const parts = partsOf(tbs);
-    const [, , issuer, , subject, key] = parts;
+    const [serial, , issuer, , subject, key] = parts;
     return {
         tbs: tbs.whole,
         subject: nameOf(subject),
         issuer: nameOf(issuer),
         key: keyOf(key),
         authority: isAuthority(parts.find(({ tag }) => tag === 0xa3)),
+        of: hex(subject.whole),
+        by: hex(issuer.whole),
+        serial: hex(serial.content),
     };
 }

@@ -63,10 +63,10 @@ export function paged(form) {
         );
     }
 
-    /** @param {T[]} more */
-    function set(more) {
+    /** @param {T[]} more @param {boolean} [keep] the page that is shown */
+    function set(more, keep) {
         rows = more;
-        show(0);
+        show(keep ? from : 0);
     }
     return { place, set };
 }

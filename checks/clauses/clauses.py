@@ -9,10 +9,21 @@ def crates(root='.'):
     return sorted(it for it in os.listdir(f'{root}/crates') if os.path.exists(f'{root}/crates/{it}/src/lib.rt'))
 
 
+class Token(str):
+    """A token with its place in the source: the offset of its first character."""
+
+    at = 0
+
+
 def plain(text):
-    """The text without comments, and with nothing in its quotes."""
+    """The text, as long as it is, without comments, and with spaces alone in its quotes."""
     quoted = r'r(#+)".*?"\1|"(?:[^"\\]|\\.)*"|\'(?:[^\'\\\n]|\\.[^\'\n]*)\'(?![a-z_A-Z])'
-    return re.sub(r'//[^\n]*|' + quoted, lambda m: '' if m.group(0).startswith('//') else '""', text, flags=re.S)
+
+    def blank(found):
+        length = len(found.group(0))
+        return ' ' * length if found.group(0).startswith('//') else '"' + ' ' * (length - 2) + '"'
+
+    return re.sub(r'//[^\n]*|' + quoted, blank, text, flags=re.S)
 
 
 def words(path):
@@ -20,7 +31,12 @@ def words(path):
 
 
 def tokens_of(text):
-    return re.findall(r'[A-Za-z_][A-Za-z_0-9]*|::|->|\S', text)
+    tokens = []
+    for found in re.finditer(r'[A-Za-z_][A-Za-z_0-9]*|::|->|\S', text):
+        token = Token(found.group(0))
+        token.at = found.start()
+        tokens.append(token)
+    return tokens
 
 
 def end_of(tokens, at):
@@ -98,19 +114,29 @@ def functions(tokens, at, end, owner, of_trait):
             at += 1
 
 
-def calls_of(crate, root='.'):
-    """The public calls of a crate, each with its clauses."""
-    room = f'{root}/crates/{crate}/src'
+def public_names(crate, root='.'):
+    """The names of what a crate's root offers."""
     names = set()
-    for path in re.findall(r'pub use ([^;]*);', plain(open(f'{room}/lib.rt', encoding='utf-8').read())):
+    for path in re.findall(r'pub use ([^;]*);', plain(open(f'{root}/crates/{crate}/src/lib.rt', encoding='utf-8').read())):
         inner = re.search(r'\{(.*)\}', path, re.S)
         names |= {name.strip().split('::')[-1].split(' as ')[-1].strip() for name in (inner.group(1) if inner else path).split(',')}
-    calls = {}
-    for path in sorted(glob.glob(f'{room}/**/*.rt', recursive=True)):
-        tokens = words(path)
-        for owner, name, public, clauses in functions(tokens, 0, len(tokens), '', False):
-            if public and (owner or name) in names:
-                calls.setdefault(f'{owner}::{name}' if owner else name, []).extend(clauses)
+    return names
+
+
+def calls_in(path, names):
+    """Each public call of a file whose own name or whose type's is offered: the call, the token of its name, its clauses."""
+    tokens = words(path)
+    for owner, name, public, clauses in functions(tokens, 0, len(tokens), '', False):
+        if public and (owner or name) in names:
+            yield (f'{owner}::{name}' if owner else str(name)), name, clauses
+
+
+def calls_of(crate, root='.'):
+    """The public calls of a crate, each with its clauses."""
+    names, calls = public_names(crate, root), {}
+    for path in sorted(glob.glob(f'{root}/crates/{crate}/src/**/*.rt', recursive=True)):
+        for call, _, clauses in calls_in(path, names):
+            calls.setdefault(call, []).extend(clauses)
     return calls
 
 

@@ -80,7 +80,7 @@ def certificates_read(program: Program) -> int:
         path = program.file("case", case["bytes"])
         try:
             it = certificate_of(path)
-            found: Any = {"tbs": it.tbs, "subject": it.subject, "issuer": it.issuer, "ca": it.authority}
+            found: Any = {"tbs": it.tbs, "subject": it.subject, "issuer": it.issuer, "key": it.key, "ca": it.authority}
         except stop as fault:
             if "refused" not in case or not re.search(WHY[case["refused"]], str(fault)):
                 fail(f"{case['name']}: {fault}")

@@ -168,7 +168,8 @@ def reads(part: Part, who: Dict[str, Person]) -> None:
     ann.env["DESK_NAME"] = "rita"
     if ann.does("requests", "--mine") or len(olga.does("requests", "--mine", "--name", "ann").splitlines()) != 2:
         fail("requests --mine")
-    olga.ends(2, "requests", "--mine", err=["needs your name"])
+    if olga.does("requests", "--mine"):
+        fail("requests --mine of who submitted none")
     olga.does("request", "1", out=[f"carried     {TBS}", "state       signed (done)", "vote        rita yes  read it"])
     ann.ends(1, "request", "2", err=["refused 23 NoSuchRequest", "deskctl requests"])
     if [row.split("\t")[1] for row in olga.does("proposals").splitlines()] != ["confirmed", "dropped", *["confirmed"] * 4, "dropped"]:

@@ -8,7 +8,7 @@ import time
 from tools import end_with_parent
 
 # The longest first.
-PARTS = ("losses", "commands", "lines", "cases", "mistakes", "imports", "routes", "signing", "readme")
+PARTS = ("losses", "commands", "lines", "cases", "mistakes", "looks", "imports", "routes", "minutes", "watches", "signing", "readme")
 
 
 def part(name: str) -> str:

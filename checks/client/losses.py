@@ -257,8 +257,9 @@ def waiting(program: Program) -> None:
         asked(1)
         between.shows["/requests/1"] = answer(502, BUSY, b"text/html")
         asked(3)
+        # (by the desk's own address: a vote reads the request before it goes out)
         for name in ("rita", "raul"):
-            who[name].does("review", "1", "yes")
+            part.people[name].does("review", "1", "yes")
         del between.shows["/requests/1"]
         out, err = run.communicate()
         if run.returncode or b"request 1 approved" not in out or b"502, the proxy doesn't reach the desk; still waiting" not in err:

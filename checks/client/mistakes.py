@@ -324,9 +324,12 @@ def in_words() -> None:
 
 
 def listing(part: Part) -> None:
-    """A certificate is listed by one officer alone, so its subject, its issuer and whether it is a CA's are shown, and the desk, before a yes."""
+    """A certificate is listed by one officer alone, so its subject, its issuer, its key and whether it is a CA's are shown, and the desk,
+    before a yes."""
     olga = part.people["olga"]
-    names = ["subject     O=A distribution, CN=Boot signer 2026", "issuer      C=DE, O=A distribution, CN=Boot CA", "CA          no", TBS]
+    names = [
+        "subject     O=A distribution, CN=Boot signer 2026", "issuer      C=DE, O=A distribution, CN=Boot CA", "key         EC, P-256", "CA          no", TBS,
+    ]
     unsent(part, olga, ("list-certificate", "certificate.der"), *names, "no terminal to ask at", "--yes")
     for case in cases("certificates"):
         if case.get("ca"):
@@ -335,7 +338,7 @@ def listing(part: Part) -> None:
     for typed, status in (("", 2), ("no", 2), ("yes", 0)):
         ended, shown = olga.asked("list-certificate", "certificate.der", answer=typed, size=(40, 300))
         told = all(name in shown for name in names) and f"At {part.url} each image that carries it is then allowed. List it?" in shown
-        if ended != status or not told or ("listed" in shown.replace("list-", "")) != (status == 0):
+        if ended != status or not told or (f"certificate {TBS} listed" in shown) != (status == 0):
             fail(f"list-certificate, {typed!r} typed: status {ended}: {shown!r}")
     part.program.file("long.der", b"\x30\x83\x01\x00\x00" + bytes(65_536))
     unsent(part, olga, ("list-certificate", "long.der", "--yes"), "has 65,541 bytes, and a certificate at most 65,536")

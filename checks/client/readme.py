@@ -1,5 +1,5 @@
 """The day at the desk in README.md, by deskctl, and that by curl in docs/FORMATS.md, each as it is printed over a desk of its own: what is
-printed below the commands comes, and both leave the same minutes but for keys."""
+printed below the commands comes, and both leave the same minutes but for keys, and for the image and the certificate of each."""
 from __future__ import annotations
 
 import glob
@@ -39,8 +39,15 @@ def day(program: Program, page: str, title: str) -> List[Tuple[str, ...]]:
     return without_keys(program.minutes(desk))
 
 
+def without_files(minutes: List[Tuple[str, ...]]) -> List[Tuple[str, ...]]:
+    """The calls with what a file gives left out: README's image is signed on the spot, by a key that is made there."""
+    given = ("submit ", "return ", "list-certificate ")
+    return [(*row[:2], row[2].split(" ")[0] if row[2].startswith(given) else row[2], *row[3:]) for row in minutes]
+
+
 def check(program: Program) -> str:
-    by_curl, by_deskctl = day(program, "docs/FORMATS.md", "A day by curl"), day(program, "README.md", "A day at the desk")
+    days = day(program, "docs/FORMATS.md", "A day by curl"), day(program, "README.md", "A day at the desk")
+    by_curl, by_deskctl = map(without_files, days)
     if not by_curl or by_curl != by_deskctl:
         fail(f"the days leave other minutes: {by_curl} and {by_deskctl}")
     return f"README's day by deskctl leaves the {len(by_curl)} commands of the one by curl"

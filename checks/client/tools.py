@@ -68,6 +68,8 @@ def by_bytecode() -> None:
         shutil.unpack_archive(DESKCTL, path, "zip")
     else:
         shutil.copytree(modules(), path)
+        # (one file has the page's table of sentences beside the modules)
+        shutil.copy(os.path.join(modules(), "..", "..", "page", "minutes.json"), os.path.join(path, "deskctl"))
     made(*python, "-m", "compileall", "-q", path)
     COMMAND[:] = [*python, path]
 
@@ -91,8 +93,7 @@ class Person:
         with open(os.open(self.token_file, os.O_WRONLY | os.O_CREAT | os.O_TRUNC, 0o600), "w", encoding="ascii") as file:
             file.write(token(name) + "\n")
         self.env = {
-            "PATH": os.environ["PATH"], "HOME": self.folder, "DESK_URL": url, "DESK_TOKEN_FILE": self.token_file,
-            "DESK_PROGRAM": program.path, **settings,
+            "PATH": os.environ["PATH"], "HOME": self.folder, "DESK_URL": url, "DESK_TOKEN_FILE": self.token_file, **settings,
         }
         self.journal = os.path.join(self.folder, ".local", "state", "deskctl")
 

@@ -13,17 +13,17 @@ from typing import Dict, List, NamedTuple
 
 from boots import AUTHENTICATED, KEK, KEK_KEY, OWNER, Boot, update
 from candidates import Candidates
-from desks import REVOKED, Exports, Program, decide, fail
+from desks import GIVEN, LISTED, MISSING, REVOKED, Exports, Program, decide, fail
 from keys import Keys, Tools, run
 from page import typed
 
 # (the folder of this module is in the path since `desks`)
-from desk import certificate_list, digest_list  # noqa: E402
+from desk import X509_KIND, certificate_list, digest_list, signature_list  # noqa: E402
 
 # What has to be typed of INTEROPERATION, besides shim's build.
 TITLES = (
-    "The exports", "Updates for firmware", "Bodies for shim", "A signed level for shim",
-    "Debian's own list",
+    "The exports", "Updates for firmware", "shim's form of dbx", "A certificate that nobody gave",
+    "A signed level for shim", "Debian's own list",
 )
 # Digests of a dbx that this firmware's variables have room for; one more is refused.
 ROOM = 702
@@ -38,8 +38,8 @@ class Row(NamedTuple):
     desk: str
     db: str  # firmware's decision with db alone
     firmware: str  # with db and dbx
-    shim: str  # with dbx as vendor_dbx
-    bodies: str  # with the bodies of revoked certificates too
+    dbx: str  # shim, with dbx as its vendor_dbx
+    shim: str  # shim, with shim-dbx.esl
     why_firmware: str  # why firmware doesn't decide as the desk does
     why_shim: str
 
@@ -60,10 +60,7 @@ def made_keys() -> Keys:
     run("openssl", "rsa", "-in", KEK_KEY, "-passin", "pass:snakeoil", "-out", "snakeoil.key")
     shutil.copyfile(KEK, "snakeoil.pem")
     keys.read("snakeoil")
-    os.makedirs("revoked")
-    for name in REVOKED:
-        os.symlink(f"../{name}.pem", f"revoked/{name}.pem")
-    for name, of in (("KEK", "snakeoil"), ("signer", "listed")):
+    for name, of in (("KEK", "snakeoil"), ("signer", "listed"), ("missing", MISSING)):
         for kind in ("key", "pem"):
             os.symlink(f"{of}.{kind}", f"{name}.{kind}")
     return keys
@@ -118,7 +115,7 @@ def firmware_decided(boot: Boot, candidates: Candidates) -> None:
 
 
 def build_shim(program: Program) -> None:
-    """`shimx64.efi` in shim's folder, with `vendor_dbx.esl`; by Debian's flags, without NX."""
+    """`shimx64.efi` in shim's folder, with `shim-dbx.esl`; by Debian's flags, without NX."""
     for name in ("cert.o", "shimx64.so", "shimx64.efi"):
         if os.path.exists(f"shim/{name}"):
             os.remove(f"shim/{name}")
@@ -133,7 +130,7 @@ def shim_volume(name: str, candidates: Candidates, tools: Tools) -> Boot:
     boot.write("EFI/check/shimx64.efi", tools.sbsign(content("shim/shimx64.efi"), "listed"))
     boot.write("db.auth", content("db.auth"))
     level = []
-    if name == "shim":
+    if name == "dbx":
         boot.write("level.csv", content("level.csv"))
         level = ["set SbatLevel s 3 /level.csv"]
     else:
@@ -173,7 +170,7 @@ def compare(found: List[Row]) -> int:
         was = wanted.pop(row.name, Row(row.name, *[""] * 8))
         row = row._replace(what=was.what, why_firmware=was.why_firmware, why_shim=was.why_shim)
         causes = (bool(row.why_firmware), bool(row.why_shim))
-        due = (differs(row.desk, row.firmware), differs(row.desk, row.shim, row.bodies))
+        due = (differs(row.desk, row.firmware), differs(row.desk, row.dbx, row.shim))
         if row != was or causes != due:
             wrong += 1
             print("\t".join(was), "\t".join(row), sep="\n", end="\n\n", file=sys.stderr)
@@ -182,12 +179,19 @@ def compare(found: List[Row]) -> int:
     return wrong
 
 
-def whole(keys: Keys, candidates: Candidates) -> None:
-    """dbx has all that was revoked: no decision tells of some entries, as by SHA-384 signatures."""
-    digests = sorted(candidates.revoked)
-    certificates = sorted(keys.tbs(name) for name in REVOKED)
-    if content("dbx.esl") != digest_list(digests) + certificate_list(certificates):
+def whole(keys: Keys, candidates: Candidates, shim: bytes) -> None:
+    """The lists have all that was revoked: no decision tells of some, as by SHA-384 signatures."""
+    images = digest_list(sorted(candidates.revoked))
+    certificates = sorted(REVOKED, key=keys.tbs)
+    bodies = [keys.certificates[it] for it in certificates if it in (*LISTED, *GIVEN)]
+    bare = [keys.tbs(it) for it in certificates if it not in (*LISTED, *GIVEN)]
+    one_each = b"".join(signature_list(X509_KIND, [it]) for it in bodies)
+    if content("dbx.esl") != images + certificate_list([keys.tbs(it) for it in certificates]):
         fail("dbx isn't what was revoked")
+    if shim != images + one_each + certificate_list(bare):
+        fail("shim-dbx.esl isn't what was revoked")
+    if content("vendor_dbx.esl") != shim + signature_list(X509_KIND, [keys.certificates[MISSING]]):
+        fail("vendor_dbx.esl isn't shim-dbx.esl with one more certificate")
 
 
 def main() -> None:
@@ -203,38 +207,37 @@ def main() -> None:
             typed(title, program.path, owner=OWNER)
         firmware = firmware_volume(candidates, exports, program, tools)
         running = [boots.submit(firmware.run)]
-        shims = []
-        for name, lists in (("bodies", "vendor_dbx.esl"), ("shim", "dbx.esl")):
-            if lists != "vendor_dbx.esl":
-                shutil.copyfile(lists, "vendor_dbx.esl")
+        lists, shims = {"shim": content("shim-dbx.esl"), "dbx": content("dbx.esl")}, {}
+        for name, built_in in lists.items():
+            keep("shim-dbx.esl", built_in)
             build_shim(program)
-            shims.append(shim_volume(name, candidates, tools))
-            running.append(boots.submit(shims[-1].run))
+            shims[name] = shim_volume(name, candidates, tools)
+            running.append(boots.submit(shims[name].run))
         for it in running:
             it.result()
     firmware_decided(firmware, candidates)
-    for it in shims:
+    for it in shims.values():
         if it.variable("SbatLevel").rstrip(b"\0") != content("level.csv").rstrip(b"\0"):
             fail(f"the level of {it.folder}: {it.variable('SbatLevel')!r}")
     rows = [
         Row(
             name, "", verdict, firmware.status("load", f"db:{name}"), firmware.decision(name),
-            shim_decision(shims[1], name), shim_decision(shims[0], name), "", "",
+            shim_decision(shims["dbx"], name), shim_decision(shims["shim"], name), "", "",
         )
         for name, verdict in exports.verdicts.items()
     ]
     wrong = compare(rows)
     if wrong:
         fail(f"{wrong} of {len(rows)} candidates aren't decided as decisions.tsv has them")
-    whole(keys, candidates)
+    whole(keys, candidates, lists["shim"])
     told(rows, time.monotonic() - began)
 
 
 def told(rows: List[Row], seconds: float) -> None:
     ways: Dict[str, int] = {
         "firmware": sum(not differs(it.desk, it.firmware) for it in rows),
-        "shim": sum(not differs(it.desk, it.shim) for it in rows),
-        "shim with bodies": sum(not differs(it.desk, it.bodies) for it in rows),
+        "shim with dbx": sum(not differs(it.desk, it.dbx) for it in rows),
+        "shim with shim-dbx.esl": sum(not differs(it.desk, it.shim) for it in rows),
     }
     said = ", ".join(f"{name} {count}" for name, count in ways.items())
     print(f"{len(rows)} images decided as they have to be, in {seconds:.0f} s; as the desk: {said}")

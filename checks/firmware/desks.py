@@ -21,6 +21,10 @@ REVOKED = (
     "revoked", "revoked-unlisted", "ca-gone", "vendor-leaf-revoked", "leaf-revoked", "ca-never",
     "inter",
 )
+# Listed, and unlisted again: the minutes keep the certificate. Each of these is revoked.
+GIVEN = ("leaf-revoked", "ca-never", "inter")
+# Revoked, and given by nobody, as a leaf that shim alone trusts: INTEROPERATION's `missing.pem`.
+MISSING = "vendor-leaf-revoked"
 STAMP = 2026112801
 
 
@@ -50,6 +54,10 @@ class Calls:
     def list_certificate(self, certificate: bytes) -> None:
         self.post("olga", "/db/certificates", certificate)
 
+    def unlist(self, certificate: str) -> None:
+        body = {"digest": certificate, "kind": "certificate"}
+        self.post("olga", "/db/unlist", json.dumps(body).encode())
+
     def list_digest(self, digest: str) -> None:
         self.post("olga", "/db/digests", json.dumps({"digest": digest}).encode())
 
@@ -74,11 +82,14 @@ def decide(program: Program, keys: Keys, candidates: Candidates) -> Exports:
     desk = program.founded("desk.db")
     with Server(program, desk) as server:
         calls = Calls(server)
-        for name in LISTED:
+        for name in (*LISTED, *GIVEN):
             calls.list_certificate(keys.certificates[name])
+        calls.unlist(keys.tbs(GIVEN[0]))
         for digest in sorted(candidates.listed):
             calls.list_digest(digest)
         calls.revoke(sorted(candidates.revoked), [keys.tbs(name) for name in REVOKED])
+        for name in GIVEN[1:]:
+            calls.unlist(keys.tbs(name))
         verdicts = {it.name: calls.verdict(it.image) for it in candidates.all}
     # Firmware refuses a db with an elliptic certificate: a copy of the desk lists it.
     elliptic = program.copied(desk, "elliptic.db")

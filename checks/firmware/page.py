@@ -23,8 +23,8 @@ def printed(title: str) -> str:
 
 def typed(title: str, program: str, **more: str) -> None:
     """Types them here, where the files are that the page names."""
-    os.makedirs("bin", exist_ok=True)
-    if not os.path.exists("bin/desk"):
+    if not os.path.exists("bin"):
+        os.makedirs("bin")
         os.symlink(program, "bin/desk")
     path = f"{os.path.abspath('bin')}:{os.environ['PATH']}"
     env: Dict[str, str] = {**os.environ, "PATH": path, **more}

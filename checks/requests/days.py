@@ -37,6 +37,10 @@ def judges(name, image, verdict):
     return Step(posted(name, "unused", "/verdict", image), ok(verdict))
 
 
+def tells(name, image, carried=(), components=()):
+    return Step(posted(name, "unused", "/facts", image), ok(facts(image, carried, components)))
+
+
 # ---- commands
 
 
@@ -90,11 +94,17 @@ def closes(number, what, name, key, proposal):
 # ---- what is shown
 
 
+def facts(image, carried=(), components=()):
+    return {
+        "carried": [*carried], "components": [[*it] for it in components], "digest": authenticode(image), "file": sha256(image),
+        "gap": 0, "length": len(image), "signing": signing(image),
+    }
+
+
 def shown(number, submitter, title, state, votes, returned=None, image=PLAIN):
     """The request of an image without a table, with its votes (reviewer, vote, note) ascending by reviewer."""
     return {
-        "carried": [], "components": [], "digest": authenticode(image), "file": sha256(image), "gap": 0, "length": len(image),
-        "number": number, "returned": returned, "signing": signing(image), "state": state, "submitter": submitter, "title": title,
+        **facts(image), "number": number, "returned": returned, "state": state, "submitter": submitter, "title": title,
         "votes": [{"note": note, "reviewer": reviewer, "vote": ballot} for reviewer, ballot, note in votes],
     }
 
@@ -324,7 +334,8 @@ TWO_PROPOSALS = [
 ]
 
 # What an officer looks at before a Confirm: the proposal whole, and each image that it would bar, by each rule; after it the same
-# proposal is closed. Then proposals whose Confirm would be refused, the minutes and the people.
+# proposal is closed. Then proposals whose Confirm would be refused, the minutes and the people. The facts of an image are the same
+# before and after.
 TITLE = 'a "title" \\ of <it>'
 DIGEST_ROW = f"sha256,{authenticode(ODD)},\n"
 ODDLY = f"kind,value,generation\nsbat,grub,2\n{DIGEST_ROW}sbat,grub,3\nx509_sha256,{TBS},\n{DIGEST_ROW}"
@@ -364,6 +375,8 @@ LOOKS = [
     reads("olga", "/minutes/1", text(minutes(1, *ADDED))),
     reads("olga", "/minutes/8", text("")),
     reads("olga", "/people", ok([{"name": name, "role": PEOPLE[name]} for name in sorted(PEOPLE)])),
+    *(reads(name, "/me", ok({"name": name, "role": role})) for name, role in PEOPLE.items()),
+    *(tells(name, ODD) for name in PEOPLE),
     submits("ann", "k1", PLAIN, "A", 1),
     reviews("rita", "k1", 1, "yes", "open"),
     reviews("raul", "k1", 1, "yes", "approved"),
@@ -391,6 +404,10 @@ LOOKS = [
     proposes("olga", "k4", "/imports/dbx", THREE_LISTS, 6),
     reads("otto", "/proposals/6", ok(whole(6, "olga", "import", "open", [digest("aa")], [digest("bb")], passed=1))),
     confirms("otto", "k5", 1, 1, 1, 1, 0),
+    tells("ann", ODD),
+    tells("sid", SIGNED, [TBS]),
+    tells("olga", grub(2), components=[("sbat", 1), ("grub", 2)]),
+    refuses(2, "rita", "unused", "/facts", bytes(64)),
     reads("otto", "/proposals/1", ok(whole(1, "olga", "import", "confirmed", **NAMED_ODDLY))),
     reads("otto", "/proposals/1/impact", refused(39)),
     reads("olga", "/proposals/2/impact", ok(impact(2, [], 216, digests=1))),

@@ -20,7 +20,7 @@ PROGRAM, LIBRARY, ROOT, STRIDE = sys.argv[1], sys.argv[2], sys.argv[3], int(sys.
 LONG_ROW = 100
 # Of these subcommands each is refused.
 EACH = ("pack", "facts", "list")
-# Of an audit each is refused, or where there are more than 2,000 the first and the last MANY, and one in 20 between.
+# Of an audit, and of a run of follow, each is refused, or where there are more than 2,000 the first and the last MANY, and one in 20 between.
 MANY = 1_000
 # Set where a case fails: then the other cases end too.
 ENDING = threading.Event()
@@ -116,7 +116,7 @@ class Refusing:
         count = len(sizes)
         if STRIDE == 0 or self.case.words[0] in EACH:
             return list(range(1, count + 1)), count
-        if STRIDE > 1 and self.case.words[0] == "audit":
+        if STRIDE > 1 and self.case.words[0] in ("audit", "follow"):
             return [it for it in range(1, count + 1) if it <= MANY or it > count - MANY or it % 20 == 0], count
         if STRIDE > 1:
             return [it for it in range(1, count + 1) if it <= 100 or it > count - 100 or it % STRIDE == 0], count
@@ -187,6 +187,7 @@ def cases():
     sums = "".join(f"{name} {sha256(it)}\n" for name, it in zip(("minutes", "dbx", "db", "level"), exports))
     calls = exports[0].count(b"\n")
     yield Case("audit", ("audit", OWNER, "-"), f"calls {calls}\n{sums}".encode(), exports[0])
+    yield Case("follow", ("follow", "DESK", OWNER, "-"), f"calls {calls}\n{sums}".encode(), exports[0], minutes=exports[0])
     # Its first opening makes of a file of version 1 one of version 2.
     with gzip.open(f"{ROOT}/examples/version-1/desk.db.gz") as it:
         program.file("first.db", it.read())

@@ -13,8 +13,8 @@ FAULT = f"device {NUMBER} {NAMES[NUMBER]}\n"
 REFUSED = response(503, said({"name": NAMES[NUMBER], "refused": int(NUMBER)}))
 # A body and a desk's file are large from these lengths on.
 LARGE_BODY, LARGE_DESK = 100_000, 300_000
-OPENING = ("person", "enrol", "verdict", "impact", "dbx", "db", "level", "minutes", "answer", "serve")
-READING = ("verdict", "dbx", "db", "level", "minutes")
+OPENING = ("person", "enrol", "verdict", "impact", "dbx", "shim", "db", "level", "minutes", "answer", "serve")
+READING = ("verdict", "dbx", "shim", "db", "level", "minutes")
 
 
 def size_of(desk):
@@ -40,7 +40,7 @@ def is_refused(given):
     """Whether this request has the response of the fault."""
     head, _, body = given.partition(b"\r\n\r\n")
     method, path = head.decode("latin-1").split(" ")[:2]
-    is_command = method == "POST" and path != "/verdict"
+    is_command = method == "POST" and path not in ("/verdict", "/facts")
     if CALL == "apply of a large command":
         return is_command and len(body) >= LARGE_BODY
     if CALL == "apply of a drop":

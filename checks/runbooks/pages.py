@@ -156,7 +156,7 @@ case "$*" in
         kill -HUP "$master"
         for worker in $workers; do while [ -e "/proc/$worker/exe" ]; do sleep 0.02; done; done
         ;;
-    'enable --now kovelamiru-publish.timer') ;;
+    'enable --now kovelamiru-publish.timer' | 'disable --now kovelamiru-standby.timer') ;;
     'start kovelamiru-publish')
         . "{room}/etc/default/kovelamiru-publish"
         # As LoadCredential does.
@@ -203,17 +203,18 @@ class Machine:
         self.shells: Dict[str, subprocess.Popen] = {}
         self.tokens: Dict[str, str] = {}
         self.keys = 0
-        for folder in ("bin", "state", "publish", "etc/default", "etc/nginx/sites-enabled", "srv", "root", "home", "nginx", "examples", "tmp"):
+        for folder in ("bin", "state", "standby", "publish", "etc/default", "etc/nginx/sites-enabled", "srv", "root", "home", "nginx", "examples", "tmp"):
             (room / folder).mkdir(parents=True)
         self.program = program
         (room / "bin" / "desk").symlink_to(program)
-        for folder, mode, name in (("state", 0o700, DESK), ("publish", 0o755, PUBLISH), ("root", 0o700, ""), ("tmp", 0o1777, "")):
+        for folder, mode, name in (("state", 0o700, DESK), ("standby", 0o700, DESK), ("publish", 0o755, PUBLISH), ("root", 0o700, ""), ("tmp", 0o1777, "")):
             self.owned(room / folder, name, mode)
         self.write_scripts()
         # What a page calls a path, and what it is here.
         self.paths = {
             "https://desk.example.org": f"http://127.0.0.1:{self.proxy}", "https://desk.example.org:8444": f"http://127.0.0.1:{self.back}",
             "/var/lib/kovelamiru-desk": f"{room}/state", "/var/lib/kovelamiru-publish": f"{room}/publish", "/var/log/nginx": f"{room}/nginx",
+            "/var/lib/kovelamiru-standby": f"{room}/standby",
             "/usr/share/doc/kovelamiru-desk/examples": f"{room}/examples", "/etc/": f"{room}/etc/", "/root/": f"{room}/root/",
             "/srv/": f"{room}/srv/", "/tmp/": f"{room}/tmp/",
         }
@@ -230,7 +231,7 @@ class Machine:
         if not self.users:
             self.script("chown", "#!/bin/sh\n")
         self.script("journalctl", f'#!/bin/sh\ntail -n 3 "{room}/journal"\n')
-        for name, path in (("deskctl", "client"), ("desk-publish", "packaging"), ("desk-again", "packaging")):
+        for name, path in (("deskctl", "client"), ("desk-publish", "packaging"), ("desk-standby", "packaging")):
             (room / "bin" / name).symlink_to(self.repository / path / name)
 
     def owned(self, path: Path, name: str, mode: int) -> Path:
@@ -317,6 +318,16 @@ class Machine:
             return answer.status, answer.read()
         finally:
             connection.close()
+
+    def burn(self) -> None:
+        """The desk and whoever starts it again end at once, in the middle of whatever they do."""
+        supervisor = int((self.room / "supervise.pid").read_text())
+        children = Path(f"/proc/{supervisor}/task/{supervisor}/children").read_text().split()
+        for process in (supervisor, *map(int, children)):
+            os.kill(process, signal.SIGKILL)
+        (self.room / "supervise.pid").unlink()
+        while listens(self.port):
+            time.sleep(0.02)
 
     def system(self, *words: str) -> None:
         subprocess.run([str(self.room / "bin" / "systemctl"), *words], check=True, timeout=600)
@@ -461,14 +472,8 @@ def full_desk(machine: Machine) -> None:
     publishes(machine, "")
 
 
-def restore(machine: Machine) -> None:
-    worked(machine)
-    machine.system("stop", "kovelamiru-desk")
-    copy = machine.room / "root" / "desk-backup.tar.gz"
-    subprocess.run(["tar", "-C", machine.room / "state", "-czf", copy, "."], check=True)
-    machine.owned(copy, "", 0o600)
-    machine.system("start", "kovelamiru-desk")
-    # What the copy lacks.
+def newest(machine: Machine) -> None:
+    """Votes, a returned file, a person, revocations and a submission after what worked left."""
     machine.does("rita", "/requests/3/review", b'{"note":"","vote":"yes"}')
     machine.does("raul", "/requests/3/review", b'{"note":"the same bytes","vote":"yes"}')
     machine.does("sid", "/requests/3/return", signed(3))
@@ -478,10 +483,41 @@ def restore(machine: Machine) -> None:
     table = "kind,value,generation\n" + "".join(f"sha256,{one:064d},\n" for one in range(20, 30)) + "sbat,grub,3\n"
     machine.does("olga", "/imports/csv", table.encode(), Desk_Stamp="2026112701")
     machine.does("otto", "/proposals/2/confirm", b"")
-    data = plain(4)
-    (machine.room / "srv" / "images" / hashlib.sha256(data).hexdigest()).write_bytes(data)
-    machine.does("ann", "/requests", data, Desk_Title="grub2 2.12-4")
+    machine.does("ann", "/requests", plain(4), Desk_Title="grub2 2.12-4")
+
+
+def restore(machine: Machine) -> None:
+    worked(machine)
+    newest(machine)
     publishes(machine)
+
+
+def machine_lost(machine: Machine) -> None:
+    """A standby followed; then ann's last call was acknowledged, and the machine burnt. What is left is the standby's."""
+    worked(machine)
+    newest(machine)
+    mirror, other = machine.room / "srv" / "mirror", machine.room / "other"
+    mirror.mkdir()
+    other.mkdir()
+    machine.owned(other, DESK, 0o700)
+    token = other / "token"
+    token.write_text(machine.tokens["olga"] + "\n")
+    machine.owned(token, DESK, 0o600)
+    for _ in range(2):
+        done = subprocess.run(
+            [machine.room / "bin" / "desk-standby", other / "desk.db", machine.room / "standby" / "minutes.txt", "--owner", OWNER, "--url",
+             f"http://127.0.0.1:{machine.port}", "--token-file", token, "--program", machine.program],
+            capture_output=True, timeout=300, check=False, **machine.account(DESK),
+        )
+        if done.returncode != 0 or not done.stdout.startswith(b"calls 25\n"):
+            fail(f"the standby: {done.returncode} {(done.stdout + done.stderr).decode()}")
+    (mirror / "audit.txt").write_bytes(done.stdout)
+    token.unlink()
+    machine.does("ann", "/requests", plain(5), Desk_Title="grub2 2.12-5")
+    machine.keys -= 1
+    machine.burn()
+    (machine.room / "state").rename(machine.room / "burnt")
+    other.rename(machine.room / "state")
 
 
 def leaked(machine: Machine) -> None:
@@ -502,7 +538,7 @@ def lost(machine: Machine) -> None:
 
 
 BEFORE: Dict[str, Callable[[Machine], None]] = {
-    "embargo": embargo, "leaked-token": leaked, "full-disk": full_disk, "full-desk": full_desk, "restore": restore,
+    "embargo": embargo, "leaked-token": leaked, "full-disk": full_disk, "full-desk": full_desk, "restore": restore, "machine-lost": machine_lost,
     "new-officer": worked, "lost-officer": lost, "publishing": worked,
 }
 
@@ -531,15 +567,29 @@ def refused(machine: Machine) -> None:
         fail("others can read the list of leaked tokens")
 
 
-def handed_over(machine: Machine) -> None:
-    """Nothing that others can read has the SHA-256 of a token, or another one's call."""
-    sums = [hashlib.sha256(machine.tokens[name].encode()).hexdigest() for name in PEOPLE]
-    found = subprocess.run(
-        ["grep", "-rlsE", "|".join(sums) + "|import 2026112701", str(machine.room / "srv"), str(machine.room / "tmp"), str(machine.room / "publish")],
-        stdout=subprocess.PIPE, check=False, **machine.account("ann"),
-    )
-    if machine.users and found.stdout:
-        fail(f"ann reads {found.stdout.decode()}")
+def shows_what(machine: Machine, lost: Path) -> None:
+    """The desk that was made again exports what the lost one does."""
+    machine.system("stop", "kovelamiru-desk")
+    for path in (lost, lost.parent):
+        machine.owned(path, DESK, 0o700)
+    for export in ("dbx", "db", "level", "minutes"):
+        if machine.run(export, "desk.db") != machine.run(export, str(lost)):
+            fail(f"{export} of the desk that was made again isn't the lost one's")
+    machine.system("start", "kovelamiru-desk")
+
+
+def same_again(machine: Machine) -> None:
+    before = machine.room / "root"
+    before.chmod(0o711)
+    shows_what(machine, before / "desk-before" / "desk.db")
+
+
+def repeated(machine: Machine) -> None:
+    """What had been answered is repeated under its keys: the last call is made, and one that the standby has takes effect once."""
+    machine.does("ann", "/requests", plain(5), Desk_Title="grub2 2.12-5")
+    machine.keys -= 2
+    machine.does("ann", "/requests", plain(4), Desk_Title="grub2 2.12-4")
+    shows_what(machine, machine.room / "burnt" / "desk.db")
 
 
 def nobodys(machine: Machine) -> None:
@@ -565,8 +615,8 @@ def never_allowed(machine: Machine) -> None:
 
 
 # After each command of a page, and after the last one.
-DURING = {"full-desk": never_allowed, "restore": handed_over}
-AFTER = {"leaked-token": refused, "lost-officer": refused, "publishing": nobodys}
+DURING = {"full-desk": never_allowed}
+AFTER = {"leaked-token": refused, "lost-officer": refused, "publishing": nobodys, "restore": same_again, "machine-lost": repeated}
 
 
 def run_page(machine: Machine, name: str) -> Tuple[int, float]:

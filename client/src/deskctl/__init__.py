@@ -5,8 +5,9 @@ requests of docs/FORMATS.md, and answers into words. It trusts the desk's answer
 it, and `desk facts` for the digests of an image. It checks no signature. It needs Python's standard
 library alone, 3.9 and later; client/README.md is its page.
 
-Its modules, each of which uses some of those before it: words, siglists, faults, terminal,
-settings, files, api, certificates, journal, formats, images, known, reading, arguments, requests,
-lists, importing, proposals, commands, cli.
+Its modules, each of which uses some of those before it: words, sentences, siglists, faults,
+terminal, settings, files, api, certificates, journal, formats, images, known, reading, arguments,
+requests, lists, importing, proposals, why, watching, table_requests, table_lists, table_reading,
+commands, cli.
 """
-VERSION = "0.1.0"
+VERSION = "0.2.0"

@@ -101,11 +101,11 @@ OPTIONS: Tuple[Word, ...] = (
     ),
     word("--cert", metavar="FILE", help="a client certificate, in PEM (DESK_CERT)"),
     word("--key", metavar="FILE", help="its key, if it is apart (DESK_CERT_KEY)"),
-    word("--name", metavar="NAME", help="your name at the desk, for --mine (DESK_NAME)"),
+    word("--name", metavar="NAME", help="your name, for --mine at an older desk (DESK_NAME)"),
     word(
         "--program",
         metavar="FILE",
-        help="the program desk, for the digests of images (DESK_PROGRAM)",
+        help="take the digests of images from this program desk, not by HTTP (DESK_PROGRAM)",
     ),
     word("--json", action="store_true", help="print the desk's own JSON"),
     word("--yes", action="store_true", help="ask nothing: it is what you mean"),
@@ -154,5 +154,5 @@ STATUSES: Tuple[Tuple[int, str], ...] = (
             " wait is over"
         ),
     ),
-    (NOT_ALLOWED, "a verdict that isn't allowed"),
+    (NOT_ALLOWED, "a verdict that isn't allowed; a file that is another image than the request's"),
 )

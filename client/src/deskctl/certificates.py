@@ -19,6 +19,10 @@ VERSION_TAG, EXTENSIONS = 0xA0, 0xA3
 # The tags of a TBSCertificate from its serial number to its key, and what may follow them.
 PARTS, MORE = [0x02] + 5 * [SEQUENCE], (0x81, 0x82, EXTENSIONS)
 BASIC_CONSTRAINTS = bytes.fromhex("551d13")
+# What a key is, by its algorithm; the size of one that is RSA, and the curve, are said beside it.
+RSA, ELLIPTIC = "2a864886f70d010101", "2a8648ce3d0201"
+KEYS = {"2b6570": "Ed25519", "2b6571": "Ed448", "2a864886f70d01010a": "RSA (PSS)"}
+CURVES = {"2a8648ce3d030107": "P-256", "2b81040022": "P-384", "2b81040023": "P-521"}
 ATTRIBUTES = {
     "550403": "CN",
     "55040a": "O",
@@ -86,14 +90,24 @@ def tbs_of(data: bytes) -> bytes:
 @dataclass(frozen=True)
 class Certificate:
     """A certificate: the SHA-256 of its TBSCertificate and of the whole of it, whose it is, who
-    issued it, and whether it says that it is a CA's."""
+    issued it, its key in words, and whether it says that it is a CA's. `of` and `by` are the two
+    names in DER, `serial` its number: what signatures and other certificates name it by."""
 
     data: bytes
     tbs: str
     fingerprint: str
     subject: str
     issuer: str
+    key: str
     authority: bool
+    of: bytes
+    by: bytes
+    serial: bytes
+
+    @property
+    def rsa(self) -> bool:
+        """Whether it is plain RSA: no other key of an X509 entry is taken by firmware."""
+        return self.key.startswith("RSA, ")
 
 
 def parts_of(tbs: Element) -> List[Element]:
@@ -137,6 +151,27 @@ def readable(name: Element) -> str:
         return "(not readable)"
 
 
+def key_words(key: Element) -> str:
+    """A SubjectPublicKeyInfo in words."""
+    algorithm, bits = elements(key.content)
+    kind, *parameters = elements(algorithm.content)
+    name = kind.content.hex()
+    if name == RSA:
+        modulus = elements(element(bits.content[1:]).content)[0]
+        return f"RSA, {int.from_bytes(modulus.content, 'big').bit_length()} bits"
+    if name == ELLIPTIC:
+        curve = parameters[0].content.hex() if parameters else ""
+        return f"EC, {CURVES.get(curve, 'another curve')}"
+    return KEYS.get(name, "of another type")
+
+
+def key_of(key: Element) -> str:
+    try:
+        return key_words(key)
+    except (ValueError, IndexError):
+        return "(not readable)"
+
+
 def is_authority(parts: List[Element]) -> bool:
     """Whether the basicConstraints among the extensions say that it is a CA's."""
     extensions = [element(it.content) for it in parts if it.tag == EXTENSIONS]
@@ -168,7 +203,11 @@ def certificate_read(data: bytes) -> Certificate:
         hashlib.sha256(data).hexdigest(),
         readable(parts[4]),
         readable(parts[2]),
+        key_of(parts[5]),
         is_authority(parts),
+        parts[4].whole,
+        parts[2].whole,
+        parts[0].content,
     )
 
 

@@ -1,4 +1,4 @@
-"""An image's facts, by the desk's program."""
+"""An image's facts, by the desk, or by its program where the desk doesn't tell."""
 from __future__ import annotations
 
 import hashlib
@@ -6,9 +6,10 @@ import os
 import re
 import shutil
 import subprocess
-from dataclasses import dataclass
-from typing import List
+from dataclasses import dataclass, fields
+from typing import Any, Dict, List, Optional
 
+from .api import Call, not_a_desk
 from .faults import Refused, explained, reason, wrong
 from .files import IMAGE_LIMIT, looks_like, read_file
 from .journal import Run
@@ -17,15 +18,64 @@ from .words import printable
 
 @dataclass(frozen=True)
 class Facts:
-    """What `desk facts` says of an image."""
+    """What the desk says of an image, by the names of POST /facts."""
 
-    path: str
+    length: int
+    gap: int
     file: str
     digest: str
     signing: str
-    gap: int
-    certificates: List[str]
-    components: List[str]
+    carried: List[str]
+    components: List[List[Any]]
+
+    def value(self) -> Dict[str, Any]:
+        """The desk's own JSON."""
+        return {one.name: getattr(self, one.name) for one in fields(self)}
+
+
+def gap_words(gap: int) -> str:
+    return f"{gap} bytes, for which osslsigncode and fwupd have another digest than firmware"
+
+
+def by_desk(run: Run) -> bool:
+    """Whether the desk is asked: it is named, and no program is."""
+    return bool(run.settings.url) and not run.settings.program
+
+
+def facts_of(run: Run, path: str) -> Facts:
+    return facts_read_by(run, path, read_file(path, IMAGE_LIMIT, "an image has"))
+
+
+def facts_read_by(run: Run, path: str, data: bytes) -> Facts:
+    """The facts of these bytes, which are the file's."""
+    try:
+        facts = asked(run, data) if by_desk(run) else None
+        facts = facts or by_program(run, path)
+    except Refused as refused:
+        refused.more = (
+            [f"{path} is {looks_like(data)}."]
+            if not data.startswith(b"MZ")
+            else [f"The file: {path}"]
+        )
+        raise explained(refused, {})
+    if facts.file != hashlib.sha256(data).hexdigest():
+        wrong(f"{path} changed while it was read")
+    return facts
+
+
+def asked(run: Run, data: bytes) -> Optional[Facts]:
+    """By the desk; nothing where it has no such route."""
+    try:
+        answer = run.desk.ask(Call("POST", "/facts", data))
+    except Refused as refused:
+        if refused.number == 53:
+            return None
+        raise
+    try:
+        found = answer.object()
+        return Facts(**{one.name: found[one.name] for one in fields(Facts)})
+    except (KeyError, TypeError):
+        raise not_a_desk(answer) from None
 
 
 def desk_program(run: Run) -> str:
@@ -38,9 +88,8 @@ def desk_program(run: Run) -> str:
     return found
 
 
-def facts_of(run: Run, path: str) -> Facts:
-    """The facts of an image, by the desk's program. It is given no environment of ours."""
-    data = read_file(path, IMAGE_LIMIT, "an image has")
+def by_program(run: Run, path: str) -> Facts:
+    """By the desk's program. It is given no environment of ours."""
     named = path if os.path.isabs(path) else os.path.join(".", path)
     try:
         ran = subprocess.run(
@@ -56,22 +105,14 @@ def facts_of(run: Run, path: str) -> Facts:
     said = ran.stderr.decode("utf-8", "replace").strip()
     refusal = re.fullmatch(r"refused (\d+) (\w+)(?: at (\d+))?", said)
     if refusal:
-        refused = Refused(int(refusal[1]), refusal[2], int(refusal[3]) if refusal[3] else None)
-        refused.more = (
-            [f"{path} is {looks_like(data)}."]
-            if not data.startswith(b"MZ")
-            else [f"The file: {path}"]
-        )
-        raise explained(refused, {})
+        raise Refused(int(refusal[1]), refusal[2], int(refusal[3]) if refusal[3] else None)
     if ran.returncode:
         wrong(f"desk facts {path}: status {ran.returncode}: {printable(said)}")
-    facts = facts_read(path, ran.stdout.decode("ascii", "replace"))
-    if facts.file != hashlib.sha256(data).hexdigest():
-        wrong(f"{path} changed while it was read")
-    return facts
+    return facts_read(path, ran.stdout.decode("ascii", "replace"))
 
 
 def facts_read(path: str, text: str) -> Facts:
+    """Lines of `desk facts`."""
     lines = [line.split(" ", 1) for line in text.splitlines()]
     one = {line[0]: line[1] for line in lines if len(line) == 2}
     many = {
@@ -79,14 +120,15 @@ def facts_read(path: str, text: str) -> Facts:
         for name in ("certificate", "component")
     }
     try:
+        parts = [line.rsplit(" ", 1) for line in many["component"]]
         return Facts(
-            path,
+            int(one["length"]),
+            int(one["gap"]),
             one["file"],
             one["digest"],
             one["signing"],
-            int(one["gap"]),
             many["certificate"],
-            many["component"],
+            [[name, int(generation)] for name, generation in parts],
         )
     except (KeyError, ValueError):
         wrong(

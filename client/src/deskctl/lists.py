@@ -10,11 +10,12 @@ from typing import Callable, Dict, List, Optional, Sequence, Tuple
 from .api import Call
 from .certificates import certificate_of
 from .faults import Causes, Refused, wrong
-from .files import ENTRY_LIMIT
+from .files import ENTRY_LIMIT, IMAGE_LIMIT, read_file
 from .formats import csv_of
-from .images import facts_of
+from .images import facts_of, facts_read_by
 from .journal import Replies, Run, act
 from .known import known, level_doubts, level_of, said_number
+from .signatures import algorithm_doubts, signatures_of
 from .words import HEX, counted, printable
 
 
@@ -52,38 +53,6 @@ def certificate_named(run: Run, text: str) -> str:
     return found.tbs
 
 
-CA_DOUBT = (
-    "It says that it is a CA's: an image that carries it beside its signer's is allowed, whoever"
-    " the signer is."
-)
-
-
-def list_certificate(run: Run) -> None:
-    found = certificate_of(run.words.file)
-    call = Call(
-        "POST", "/db/certificates", found.data, (), "listed", f"list-certificate {found.tbs}"
-    )
-
-    def asks(taken: bool) -> None:
-        for name, text in (
-            ("subject", found.subject),
-            ("issuer", found.issuer),
-            ("CA", "yes" if found.authority else "no"),
-            ("certificate", f"{found.tbs} (the SHA-256 of its TBSCertificate)"),
-        ):
-            run.terminal.warn(f"  {name:<11} {text}")
-        if not taken:
-            run.terminal.confirm(
-                [CA_DOUBT] if found.authority else [],
-                (
-                    f"At {run.desk.where} each image that carries it is then allowed. List it? Type"
-                    " yes:"
-                ),
-            )
-
-    act(run, [call], lambda _: run.terminal.say(f"certificate {found.tbs} listed"), asks)
-
-
 def named_body(digest: str, **more: str) -> bytes:
     return json.dumps({"digest": digest, **more}, separators=(",", ":"), sort_keys=True).encode()
 
@@ -92,7 +61,13 @@ def digest_named(run: Run, text: str) -> str:
     """An image's digest by its file, or as it is given."""
     if HEX.match(text) or not os.path.exists(text):
         return hex_of(text, "an image's file, or its digest")
-    return facts_of(run, text).digest
+    facts = facts_of(run, text)
+    if facts.digest != facts.signing:
+        run.terminal.warn(
+            f"! {text} has a length that is no multiple of 8: shim looks at its other digest,"
+            f" {facts.signing}. The desk allows it by {facts.digest}."
+        )
+    return facts.digest
 
 
 def list_digest(run: Run) -> None:
@@ -183,7 +158,10 @@ def revoked_named(run: Run) -> Named:
                 f"{path} is no file",
                 "A digest is named by --digest HEX, a certificate by --certificate.",
             )
-        facts = facts_of(run, path)
+        data = read_file(path, IMAGE_LIMIT, "an image has")
+        facts = facts_read_by(run, path, data)
+        for doubt in algorithm_doubts(signatures_of(data)):
+            run.terminal.warn(f"! {path}: {doubt}")
         digests += [facts.digest, facts.signing]
         about.update({facts.signing: f"signing digest of {path}"})
         about.update({facts.digest: f"digest of {path}"})

@@ -10,6 +10,7 @@ from .faults import REFUSED, Refused, Stop, wrong
 from .journal import Replies, Run, act, desk_json
 from .known import Counts, Impact, Proposal, known, level_doubts, level_of, said_number, shaped
 from .requests import verdict_words
+from .standing import me_of
 from .words import counted, printable
 
 
@@ -155,7 +156,8 @@ def proposal(run: Run) -> None:
     found = known(run, one.digests, one.certificates, one.components)
     for line in named_lines(run, one, value, found.about) + lines:
         run.terminal.say(line)
-    for doubt in found.doubts + (
+    own = own_doubts(run, one.officer) if one.state == "open" else []
+    for doubt in own + found.doubts + (
         level_doubts(one.components, one.stamp, level_of(run)[1], found.names) if lines else []
     ):
         run.terminal.say(f"! {doubt}")
@@ -189,6 +191,14 @@ class Seen:
         return len(shaped(Impact, self.impact).bars)
 
 
+OWN_PROPOSAL = "You proposed it yourself: the desk takes the Confirm of another officer alone."
+
+
+def own_doubts(run: Run, officer: str) -> List[str]:
+    me = me_of(run)
+    return [OWN_PROPOSAL] if me and me.name == officer else []
+
+
 def show_all(run: Run, value: Dict[str, Any], one: Proposal) -> Seen:
     """Shows all that an open proposal names, and what a Confirm of it would do."""
     found = known(run, one.digests, one.certificates, one.components)
@@ -201,7 +211,9 @@ def show_all(run: Run, value: Dict[str, Any], one: Proposal) -> Seen:
         raise
     for line in impact_lines(shaped(Impact, impact)):
         run.terminal.warn(line)
-    doubts = found.doubts + level_doubts(one.components, one.stamp, level_of(run)[1], found.names)
+    doubts = own_doubts(run, one.officer)
+    doubts += found.doubts
+    doubts += level_doubts(one.components, one.stamp, level_of(run)[1], found.names)
     return Seen(value, impact, doubts)
 
 
@@ -257,7 +269,8 @@ def confirm_blind(run: Run, taken: bool) -> None:
                 "Look at what it names by other ways; then --yes.",
             )
     entries = one.digests + one.certificates + one.components
-    doubts = [f"{BLIND}. Ask its proposer what it names, and compare."]
+    doubts = own_doubts(run, one.officer)
+    doubts.append(f"{BLIND}. Ask its proposer what it names, and compare.")
     run.terminal.confirm(
         doubts,
         f"At {run.desk.where} nothing takes it back. To confirm, type how many entries it has:",

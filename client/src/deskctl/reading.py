@@ -6,13 +6,14 @@ import hashlib
 import os
 import secrets
 import stat
-from typing import BinaryIO, Tuple
+from typing import BinaryIO, Iterator, Tuple
 
 from .api import Answer, not_a_desk
 from .faults import REFUSED, Refused, Stop, reason, wrong
 from .files import fresh
 from .journal import Run
-from .words import counted
+from .standing import me_of
+from .words import counted, printable
 
 
 def new_route(run: Run, path: str, what: str) -> Answer:
@@ -41,6 +42,20 @@ def people(run: Run) -> None:
         run.print_json(found)
         return
     run.terminal.table(("NAME", "ROLE"), [(one.get("name"), one.get("role")) for one in found], 0)
+
+
+def me(run: Run) -> None:
+    found = me_of(run)
+    if found is None:
+        raise Stop(
+            REFUSED,
+            "this desk doesn't tell who you are (refused 53 NoRoute): its program is older than"
+            " deskctl",
+        )
+    if run.words.json:
+        run.print_json({"name": found.name, "role": found.role})
+        return
+    run.terminal.say(f"{printable(found.name)} {printable(found.role)}")
 
 
 def report(run: Run) -> None:
@@ -74,6 +89,15 @@ def minutes_from(run: Run, number: int) -> bytes:
     if data and (not data.endswith(b"\n") or not data.startswith(b"%d\t" % number)):
         raise not_a_desk(answer)
     return data
+
+
+def minute_lines(run: Run) -> Iterator[str]:
+    """All lines of the desk's minutes, without their ends."""
+    at, data = 1, minutes_from(run, 1)
+    while data:
+        yield from data.decode("ascii", "replace").splitlines()
+        at += data.count(b"\n")
+        data = minutes_from(run, at)
 
 
 def last_line(file: BinaryIO, path: str) -> Tuple[int, bytes, bytes]:

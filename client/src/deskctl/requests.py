@@ -12,10 +12,12 @@ from typing import Any, Dict, List, Optional, Tuple
 from .api import Call, LONGEST_PAUSE
 from .faults import Causes, DONE, LOST, Lost, NOT_ALLOWED, REFUSED, Refused, Stop, explained, wrong
 from .files import IMAGE_LIMIT, looks_like, read_file
-from .images import facts_of
+from .images import facts_of, gap_words
 from .journal import Replies, Run, act
 from .known import Request, level_of, said_number, shaped
 from .settings import config_path
+from .signatures import issuer_names, signatures_of
+from .standing import Standing, me_of, standing_of
 from .words import printable
 
 
@@ -66,11 +68,10 @@ def barred_by(run: Run, path: str, data: bytes) -> List[str]:
     if verdict.get("verdict") != "not-listed":
         return [f"By what: {verdict_words(verdict)}."]
     current = level_of(run)[1]
-    parts = [line.rsplit(" ", 1) for line in facts_of(run, path).components]
     return [
         f"By what: {name} has generation {generation}, and the level requires {current[name]}."
-        for name, generation in parts
-        if int(generation) < current.get(name, 0)
+        for name, generation in facts_of(run, path).components
+        if generation < current.get(name, 0)
     ]
 
 
@@ -111,14 +112,21 @@ def submit(run: Run) -> None:
     )
 
 
-def requests(run: Run) -> None:
-    words = run.words
-    name = run.settings.name
-    if words.mine and not name:
+def own_name(run: Run) -> str:
+    """The caller's name: as it is given, or as the desk has it."""
+    me = None if run.settings.name else me_of(run)
+    name = me.name if me else run.settings.name
+    if not name:
         wrong(
-            "--mine needs your name, which the desk doesn't tell",
+            "--mine needs your name, which this desk doesn't tell",
             f"Give --name NAME, DESK_NAME, or `name = NAME` in {config_path()}.",
         )
+    return name
+
+
+def requests(run: Run) -> None:
+    words = run.words
+    name = own_name(run) if words.mine else None
     if words.json and not words.state and not words.mine:
         shutil.copyfileobj(
             io.TextIOWrapper(run.desk.get("/requests").body, encoding="utf-8"), run.terminal.out
@@ -159,30 +167,18 @@ def request(run: Run) -> None:
     if run.words.json:
         run.print_json(value)
         return
-    one = shaped(Request, value)
+    one, me = shaped(Request, value), me_of(run)
     rows: List[Tuple[str, object]] = [
         ("number", one.number),
         ("state", f"{one.state} ({NEXT.get(one.state, '')})"),
-        ("submitter", one.submitter),
+        ("submitter", one.submitter + (" (you)" if me and me.name == one.submitter else "")),
         ("title", one.title),
         ("length", one.length),
         ("file", one.file),
         ("digest", one.digest),
         ("signing", one.signing),
     ]
-    rows += (
-        [
-            (
-                "gap",
-                (
-                    f"{one.gap} bytes, for which osslsigncode and fwupd have another digest than"
-                    " firmware"
-                ),
-            )
-        ]
-        if one.gap
-        else []
-    )
+    rows += [("gap", gap_words(one.gap))] if one.gap else []
     rows += [("carried", digest) for digest in one.carried]
     rows += [("component", f"{name} {generation}") for name, generation in one.components]
     rows += [
@@ -191,6 +187,19 @@ def request(run: Run) -> None:
     ]
     rows += [("returned", one.returned)] if one.returned else []
     run.terminal.rows(rows)
+
+
+OWN_REQUEST = "You submitted it yourself: the desk takes votes of other reviewers alone."
+
+
+def review_asks(run: Run, taken: bool) -> None:
+    """Before a vote that the desk will refuse, as its caller's own request."""
+    me = None if taken else me_of(run)
+    if me is None:
+        return
+    one = shaped(Request, run.desk.get(f"/requests/{run.words.number}").object())
+    if one.submitter == me.name:
+        run.terminal.confirm([OWN_REQUEST], "Vote all the same? Type yes:")
 
 
 def review(run: Run) -> None:
@@ -210,7 +219,13 @@ def review(run: Run) -> None:
         run.terminal.say(f"request {number} reviewed: {printable(state)}")
         run.terminal.note(f"{state}: {NEXT.get(state, '')}.")
 
-    act(run, [call], show, causes={24: lambda _: state_of(run, number)})
+    act(
+        run,
+        [call],
+        show,
+        lambda taken: review_asks(run, taken),
+        {24: lambda _: state_of(run, number)},
+    )
 
 
 def withdraw(run: Run) -> None:
@@ -224,13 +239,33 @@ def withdraw(run: Run) -> None:
     )
 
 
-def carried_words(run: Run, path: str) -> List[str]:
-    carried = facts_of(run, path).certificates
+ISSUER_LISTED = "its signer's issuer is listed; the desk compares what the image carries"
+
+
+class Issuers:
+    """Whether the issuer of an image's signer is listed: the lists are read once."""
+
+    def __init__(self, run: Run):
+        self.run = run
+        self.now: Optional[Standing] = None
+
+    def words(self, data: bytes) -> str:
+        """ISSUER_LISTED of an image whose signer's issuer is listed, by their names."""
+        names = issuer_names(signatures_of(data))
+        if not names:
+            return ""
+        self.now = self.now or standing_of(self.run)
+        return ISSUER_LISTED if any(map(self.now.named, names)) else ""
+
+
+def carried_words(run: Run, path: str, data: bytes) -> List[str]:
+    carried = facts_of(run, path).carried
     if not carried:
         return ["It carries no certificate: it isn't signed."]
+    words = Issuers(run).words(data)
     return [
         f"It carries {certificate} (the SHA-256 of the TBSCertificate)." for certificate in carried
-    ]
+    ] + ([f"By name {words}."] if words else [])
 
 
 def differing(run: Run, number: int, path: str) -> List[str]:
@@ -268,18 +303,20 @@ def give_back(run: Run) -> None:
             24: lambda _: state_of(run, number),
             27: lambda _: differing(run, number, path),
             28: lambda _: barred_by(run, path, data),
-            29: lambda _: carried_words(run, path),
+            29: lambda _: carried_words(run, path, data),
         },
     )
 
 
 def verdict(run: Run) -> Optional[int]:
-    status, rows = DONE, []
+    status, rows, issuers, told = DONE, [], Issuers(run), []
 
     def show() -> None:
         if run.words.json:
             return
         run.terminal.table(("VERDICT", "WHY", "FILE"), rows, 2)
+        for line in told:
+            run.terminal.note(line)
         if any(row[0] == "allowed" for row in rows):
             run.terminal.note(
                 "allowed: by its digest or a certificate that it carries; no signature was checked."
@@ -300,6 +337,8 @@ def verdict(run: Run) -> Optional[int]:
             status = NOT_ALLOWED
         if run.words.json:
             run.print_json(found)
+        elif found["verdict"] == "not-listed" and issuers.words(data):
+            told.append(f"{path}: {ISSUER_LISTED}.")
         rows.append((found["verdict"], verdict_words(found), path))
     show()
     return status

@@ -98,7 +98,7 @@ WHY: Dict[int, Tuple[str, str]] = {
         "Sign exactly the file whose SHA-256 `deskctl request N` shows as `file`.",
     ),
     28: (
-        "the image is revoked",
+        "the image is barred: revoked, or below the level",
         "It stays revoked: build one with a higher generation, or sign with another certificate.",
     ),
     29: (

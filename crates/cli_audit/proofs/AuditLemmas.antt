@@ -72,7 +72,7 @@ followed what owner desk calls known before after watch r f (left, w) h =
 -- ---- minutes that weren't followed
 
 -- only a wrong line has the row of one
-line_of : (fault : AuditFault) (n : ℕ) → of_audit fault ≡ wrong_line n → fault ≡ Line n
+pub line_of : (fault : AuditFault) (n : ℕ) → of_audit fault ≡ wrong_line n → fault ≡ Line n
 line_of (Line m) n e = ap Line (same_Some m n (ap (λ (f : Fault). f.place) e))
 line_of (Device refusal) n e = let bad : None ≡ Some n = ap (λ (f : Fault). f.place) e in absurd (cc)
 

@@ -1,2 +1,3 @@
-mod AuditLemmas
+pub mod AuditLemmas
+mod ReadingLemmas
 mod WritingLemmas

@@ -1,9 +1,10 @@
 //! The digests of a desk's exports.
-ghost use Rattle.std.specs.Prelude.{◌≡◌, IfErr, IfOk, OnOk, length};
+ghost use Rattle.std.specs.Prelude.{◌≡◌, ◌≢◌, Err, IfErr, IfOk, length};
 ghost use Rattle.sha2.specs.Sha256.{sha256};
 ghost use Rattle.sqlite.specs.Held.{state};
 ghost use Rattle.sqlite.specs.State.{HasCleanDisk};
 ghost use Rattle.desk_exports.specs.Exports.{exported};
+ghost use Rattle.store_schema.specs.rows.Histories.{LeavesHistory};
 ghost use Rattle.desk_store.specs.Desks.{ForEachShown, KeepsDesk};
 ghost use Rattle.cli_commands.specs.Faults.{IsWritingRefusal};
 ghost use Rattle.cli_audit.specs.Lines.{told_of};
@@ -22,8 +23,9 @@ use sqlite::Alter;
 fn digest_of<S: Alter + Drop>(desk: &mut Desk<S>, what: Export) -> Result<Digest, Refusal>
     ensures exact { HasCleanDisk (state S.Store desk.new.conn) → IfOk result (λ digest.
         ForEachShown S.Store desk.old (λ owner cs. digest ≡ sha256 (exported what owner cs))) }
-    ensures same { HasCleanDisk (state S.Store desk.new.conn)
-        → OnOk result (KeepsDesk S.Store desk.old desk.new) }
+    ensures same { HasCleanDisk (state S.Store desk.new.conn) → result ≢ Err Refusal.Store
+        → KeepsDesk S.Store desk.old desk.new }
+    ensures left { ForEachShown S.Store desk.old (LeavesHistory (state S.Store desk.new.conn)) }
     ensures clean { HasCleanDisk (state S.Store desk.new.conn)
         → HasCleanDisk (state S.Store desk.old.conn) }
     ensures named { IfErr result IsWritingRefusal }
@@ -35,13 +37,19 @@ fn digest_of<S: Alter + Drop>(desk: &mut Desk<S>, what: Export) -> Result<Digest
     }
 }
 
-/// What an audit tells of the minutes of a desk, of so many calls. Takes memory for one row.
+/// What an audit tells of the minutes of a desk, of so many calls. The desk doesn't change. Takes
+/// memory for one row.
 ///
 /// `NoMemory`, `Store`, `Reopen`: as for `digest_of`.
 pub(crate) fn told<S: Alter + Drop>(desk: &mut Desk<S>, calls: u64) -> Result<Summary, Refusal>
     ensures exact { HasCleanDisk (state S.Store desk.new.conn) → IfOk result (λ told.
         ForEachShown S.Store desk.old (λ owner cs. length cs ≡ calls
         → told ≡ told_of owner cs)) }
+    ensures same { HasCleanDisk (state S.Store desk.new.conn) → result ≢ Err Refusal.Store
+        → KeepsDesk S.Store desk.old desk.new }
+    ensures left { ForEachShown S.Store desk.old (LeavesHistory (state S.Store desk.new.conn)) }
+    ensures clean { HasCleanDisk (state S.Store desk.new.conn)
+        → HasCleanDisk (state S.Store desk.old.conn) }
     ensures named { IfErr result IsWritingRefusal }
 {
     let minutes = digest_of(desk, Export::Minutes)?;

@@ -10,7 +10,7 @@ use desk_audit::{AuditFault, in_memory};
 use desk_bytes::Refusal;
 
 /// The row for minutes that aren't those of a desk, or aren't followed.
-pub(crate) fn row(fault: AuditFault) -> Fault
+pub fn row(fault: AuditFault) -> Fault
     ensures { result ≡ of_audit fault }
 {
     match fault {

@@ -13,4 +13,6 @@ mod writing;
 
 pub use auditing::{audit_file, audit_input};
 pub use desk_audit::LineWatch;
+pub use fault::row;
 pub use running::run_audit;
+pub use writing::say_told;

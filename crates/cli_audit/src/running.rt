@@ -1,5 +1,5 @@
 //! The subcommand `audit`, as it runs: what it prints goes through a buffer to the standard output.
-//! It has no clauses, so that a program that calls it loads none.
+//! It has no clauses: the checks run it.
 use crate::{LineWatch, audit_file, audit_input};
 use cli_lines::{Buffered, Ending, Fault, Outcome};
 use desk_bytes::{Guid, Refusal};

@@ -1,11 +1,14 @@
 //! What an audit writes of a desk that has followed minutes.
-ghost use Rattle.std.specs.Prelude.{◌≡◌, IfErr, OnErr, OnOk};
+ghost use Rattle.std.specs.Prelude.{◌≡◌, ◌≢◌, Err, IfErr, OnErr, OnOk};
 ghost use Rattle.std.specs.Io.KnownBytes.{Appends};
 ghost use Rattle.sqlite.specs.Held.{state};
 ghost use Rattle.sqlite.specs.State.{HasCleanDisk};
 ghost use Rattle.desk_bytes.specs.Output.{AppendsBeginning};
+ghost use Rattle.desk_bytes.specs.declared.refusal.Refusal.TheVariants as refusals;
+ghost use Rattle.store_schema.specs.rows.Histories.{LeavesHistory};
+ghost use Rattle.desk_store.specs.Desks.{ForEachShown, KeepsDesk};
 ghost use Rattle.cli_commands.specs.Faults.{IsWritingRefusal};
-ghost use Rattle.cli_lines.specs.Faults.{IsRow};
+ghost use Rattle.cli_lines.specs.Faults.{IsRow, row_of};
 ghost use Rattle.cli_audit.specs.Audits.{WritesCounted, WritesLast, audited};
 ghost use Rattle.cli_audit.specs.Lines.{audit_lines, told_lines};
 
@@ -24,15 +27,17 @@ fn say<W: Buffered>(told: &Summary, writer: &mut W) -> Result<(), Fault>
     ensures flushed { OnOk result (W.flushed writer.new) }
     ensures err { OnErr result (AppendsBeginning (W.contents writer.old) (W.contents writer.new)
         (told_lines told.now)) }
-    ensures named { IfErr result (IsRow IsWritingRefusal) }
+    ensures named { IfErr result (λ fault. fault ≡ row_of refusals.Write) }
 {
     put_told(told, writer)?;
     writer.flush_all()?;
     Ok(())
 }
 
-/// Writes the lines of an audit of a desk of so many calls, and flushes the writer.
-fn say_told<S: Alter + Drop, W: Buffered>(
+/// Writes the lines of an audit of a desk of so many calls, and flushes the writer. The desk doesn't
+/// change. After `Write` the writer holds a prefix of the lines; after any other fault nothing is
+/// written.
+pub fn say_told<S: Alter + Drop, W: Buffered>(
     desk: &mut Desk<S>,
     calls: u64,
     writer: &mut W,
@@ -41,7 +46,16 @@ fn say_told<S: Alter + Drop, W: Buffered>(
         → WritesCounted S.Store desk.old calls audit_lines
         (W.contents writer.old) (W.contents writer.new) result }
     ensures flushed { OnOk result (W.flushed writer.new) }
+
+    ensures unwritten { IfErr result (λ fault. fault ≢ row_of refusals.Write
+        → writer.new ≡ writer.old) }
     ensures named { IfErr result (IsRow IsWritingRefusal) }
+
+    ensures same { HasCleanDisk (state S.Store desk.new.conn)
+        → result ≢ Err (row_of refusals.Store) → KeepsDesk S.Store desk.old desk.new }
+    ensures left { ForEachShown S.Store desk.old (LeavesHistory (state S.Store desk.new.conn)) }
+    ensures clean { HasCleanDisk (state S.Store desk.new.conn)
+        → HasCleanDisk (state S.Store desk.old.conn) }
 {
     match told(desk, calls) {
         Ok(told) => say(&told, writer),

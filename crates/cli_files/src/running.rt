@@ -1,5 +1,5 @@
 //! The subcommands at a desk's file, as they run: what they print goes through a buffer to the
-//! standard output. They have no clauses, so that a program that calls them loads none.
+//! standard output. They have no clauses: the checks run them.
 use crate::{add_person, export_from, foretell_from, judge_image};
 use cli_lines::Ending;
 use cli_opening::make_desk;

@@ -40,11 +40,12 @@ bare_app = on_top (λ s. record s {
 -- with the subcommands that make and keep a desk
 abbrev pub with_keeping : App → App
 with_keeping app =
-    with_subcommand (with_subcommand (with_subcommand (with_subcommand app
+    with_subcommand (with_subcommand (with_subcommand (with_subcommand (with_subcommand app
     (subcommand_shape (codes "init") 2))
     (subcommand_shape (codes "person") 4))
     (subcommand_shape (codes "enrol") 4))
-    (subcommand_shape (codes "minutes") 1)
+    (subcommand_shape (codes "minutes") 1))
+    (subcommand_shape (codes "follow") 3)
 
 -- with the subcommands that take requests
 abbrev pub with_requests : App → App
@@ -68,9 +69,10 @@ with_proposals app = with_subcommand app (subcommand_shape (codes "impact") 2)
 -- with the subcommands that publish a desk's decisions
 abbrev pub with_exports : App → App
 with_exports app =
-    with_subcommand (with_subcommand (with_subcommand app
+    with_subcommand (with_subcommand (with_subcommand (with_subcommand app
     (subcommand_shape (codes "db") 1))
     (subcommand_shape (codes "dbx") 1))
+    (subcommand_shape (codes "shim") 1))
     (subcommand_shape (codes "level") 1)
 
 -- with the subcommand that follows minutes without a desk, which has a word that may be left out

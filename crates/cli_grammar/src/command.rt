@@ -178,13 +178,19 @@ fn with_enrol<'a>(alloc: Global, command: Command<'a>) -> Result<Command<'a>, Al
     )
 }
 
-/// The command with the subcommands that make and keep a desk.
-fn with_keeping<'a>(alloc: Global, command: Command<'a>) -> Result<Command<'a>, AllocError>
-    ensures { IfOk result (λ c. app_of c ≡ spec.with_keeping (app_of command.entry)) }
+/// The path of minutes.
+fn minutes_file<'a>() -> Shown<'a> {
+    Shown {
+        name: "FILE",
+        help: "The path of the minutes, or - for standard input",
+    }
+}
+
+/// The command with `minutes`.
+fn with_minutes<'a>(alloc: Global, command: Command<'a>) -> Result<Command<'a>, AllocError>
+    ensures { IfOk result (λ c. app_of c
+        ≡ with_subcommand (app_of command.entry) (subcommand_shape (codes "minutes") 1)) }
 {
-    let command = with_init(alloc, command)?;
-    let command = with_person(alloc, command)?;
-    let command = with_enrol(alloc, command)?;
     with_one_more(
         alloc,
         command,
@@ -192,6 +198,24 @@ fn with_keeping<'a>(alloc: Global, command: Command<'a>) -> Result<Command<'a>, 
         "Prints the accepted calls of a desk",
         help::MINUTES,
         &[db()],
+    )
+}
+
+/// The command with the subcommands that make and keep a desk.
+fn with_keeping<'a>(alloc: Global, command: Command<'a>) -> Result<Command<'a>, AllocError>
+    ensures { IfOk result (λ c. app_of c ≡ spec.with_keeping (app_of command.entry)) }
+{
+    let command = with_init(alloc, command)?;
+    let command = with_person(alloc, command)?;
+    let command = with_enrol(alloc, command)?;
+    let command = with_minutes(alloc, command)?;
+    with_one_more(
+        alloc,
+        command,
+        "follow",
+        "Makes a desk that follows the minutes of another, or goes on with it",
+        help::FOLLOW,
+        &[db(), owner(), minutes_file()],
     )
 }
 
@@ -309,6 +333,14 @@ fn with_exports<'a>(alloc: Global, command: Command<'a>) -> Result<Command<'a>, 
         help::DBX,
         &[db()],
     )?;
+    let command = with_one_more(
+        alloc,
+        command,
+        "shim",
+        "Writes what a desk has revoked in the form that shim reads",
+        help::SHIM,
+        &[db()],
+    )?;
     with_one_more(
         alloc,
         command,
@@ -325,20 +357,16 @@ fn audit_subcommand<'a>(alloc: Global) -> Result<Command<'a>, AllocError>
         ≡ with_optional (subcommand_shape (codes "audit") 2)) }
     ensures local { IfOk result (λ c. (out-Command c).has_globals ≡ false) }
 {
-    let file = Shown {
-        name: "FILE",
-        help: "The path of the minutes, or - for standard input",
-    };
     let export = Shown {
         name: "EXPORT",
-        help: "dbx, db or level: the export that is written",
+        help: "dbx, shim, db or level: the export that is written",
     };
     let command = subcommand(
         alloc,
         "audit",
         "Follows the minutes of a desk, and prints what its exports must be",
         help::AUDIT,
-        &[owner(), file],
+        &[owner(), minutes_file()],
     )?;
     command.arg(optional_word(alloc, id_at(2), &export))
 }

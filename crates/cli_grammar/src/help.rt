@@ -5,7 +5,7 @@
 
 /// The program's version, and the kit that proves it: the line of `rt version`, which
 /// checks/help.sh compares.
-pub const VERSION: &str = "0.1.0 (rattle-kit-13f logic dac8208d650f15bf)";
+pub const VERSION: &str = "0.2.0 (rattle-kit-13f logic dac8208d650f15bf)";
 
 /// Each row begins the subcommand's own help.
 pub const DESK: &str = "\
@@ -18,6 +18,7 @@ Make and keep a desk:
   person   Adds a person to a desk, with the token on standard input
   enrol    Adds a person to a desk, with the token's SHA-256 on standard input
   minutes  Prints the accepted calls of a desk
+  follow   Makes a desk that follows the minutes of another, or goes on with it
 
 Take requests:
   serve    Serves requests to a desk over HTTP, one connection after another
@@ -34,6 +35,7 @@ Look at a proposal:
 Publish what a desk decided:
   db       Writes what a desk allows as signature lists (db)
   dbx      Writes what a desk has revoked as signature lists (dbx)
+  shim     Writes what a desk has revoked in the form that shim reads
   level    Writes the SBAT level of a desk
 
 Follow minutes without a desk:
@@ -118,6 +120,26 @@ Exit status:
      version
   2  an argument is missing or wrong
   3  a device failed: 45 File, DB is missing or in use";
+
+pub const FOLLOW: &str = "\
+FILE has minutes as `minutes` prints them. If DB is missing, makes a desk of
+OWNER in it; otherwise the minutes of the desk in DB have to be a beginning of
+FILE, or FILE a beginning of them. Follows the other lines of FILE, one commit
+each: the number, caller, key, text and reply of each have to be what the rules
+give. A run that was stopped is finished by the next. Prints `calls N`, and
+with `minutes`, `dbx`, `db` and `level` the SHA-256 of what the desk exports.
+
+Example:
+  desk follow standby.db 00112233-4455-6677-8899-aabbccddeeff minutes.txt
+
+Exit status:
+  0  the desk in DB has followed each line of FILE
+  1  refused: 47 Minute, at the number of the first line that isn't that of the
+     desk or what the rules give, or isn't whole; the lines before it are
+     followed; 48 Owner, the desk in DB has another owner; 43 NotADesk, DB holds
+     no desk; 44 Version, it holds one of another version
+  2  an argument is missing or wrong
+  3  a device failed: 45 File, DB or FILE can't be opened";
 
 pub const SERVE: &str = "\
 Takes COUNT connections at PORT of 127.0.0.1, one after another, and ends. It
@@ -240,6 +262,24 @@ TBSCertificate. If nothing is revoked, it writes nothing.
 
 Example:
   desk dbx desk.db > dbx.esl
+
+Exit status:
+  0  the lists are written
+  1  refused: 43 NotADesk, DB holds no desk; 44 Version, it holds one of another
+     version
+  2  an argument is missing or wrong
+  3  a device failed: 45 File, DB is missing or in use";
+
+pub const SHIM: &str = "\
+Writes what dbx revokes in the form that shim reads, which passes over revoked
+certificates that are given by a digest. Signature lists, to standard output:
+the list of digests that dbx has; for each revoked certificate one list for each
+body that a ListCertificate gave, also if it was unlisted since; then one list
+of the other revoked certificates, as dbx has them. If nothing is revoked, it
+writes nothing.
+
+Example:
+  desk shim desk.db > shim-dbx.esl
 
 Exit status:
   0  the lists are written

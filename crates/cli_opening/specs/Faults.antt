@@ -14,6 +14,10 @@ IsMakingRefusal refusal = IsFileRefusal refusal ⊎ ((refusal ≡ refusals.Exist
 abbrev pub IsOpeningRefusal : Refusal → Type 0
 IsOpeningRefusal refusal = IsFileRefusal refusal ⊎ ((refusal ≡ refusals.Version) ⊎ IsReadRefusal refusal)
 
+-- own: no desk is opened or made
+abbrev pub IsFindingRefusal : Refusal → Type 0
+IsFindingRefusal refusal = IsOpeningRefusal refusal ⊎ IsMakingRefusal refusal
+
 -- the refusals for a close that fails: a device's
 abbrev pub IsClosingRefusal : Refusal → Type 0
 IsClosingRefusal refusal = IsFailure refusal ⊎ (refusal ≡ refusals.Reopen)

@@ -1,5 +1,5 @@
 -- The desk of a connection.
-use Rattle.std.specs.Prelude.{◌≡◌, ℕ, List, [], false}
+use Rattle.std.specs.Prelude.{◌≡◌, ◌⊎◌, ℕ, List, [], false}
 use Rattle.sqlite.specs.Files.{over_files}
 use Rattle.sqlite.specs.Held.{Held, state}
 use Rattle.sqlite.specs.State.{HasCleanDisk}
@@ -34,6 +34,10 @@ module _ {S : Type 0} (g : Ghosts S) (conn : Held S) where
     pub lives : HasCleanDisk (state g desk.conn) → Recovers g conn desk
     pub spares : (owner : List ℕ) (cs : History) → ShowsHistory (state g conn) owner cs → Spares g conn desk.conn
 
+  -- the desk was opened so, or it was made in an empty store and shows no calls of this owner
+  abbrev pub FindsOrMakes : List ℕ → Desk S → Type 0
+  FindsOrMakes owner desk = Opens desk ⊎ (HasCleanDisk (state g desk.conn) → ShowsDesk g desk owner [])
+
 module _ {D : Type 0} (g : disk.Ghosts D) where
   -- the desk was made over a connection to files
   abbrev pub IsMade : List ℕ → Desk (FileStore D g) → Type 0
@@ -42,3 +46,7 @@ module _ {D : Type 0} (g : disk.Ghosts D) where
   -- the desk was opened over a connection to files
   abbrev pub IsOpened : Desk (FileStore D g) → Type 0
   IsOpened desk = (conn : Held (FileStore D g)) × Opens over_files conn desk
+
+  -- the desk was opened over a connection to files, or made over one
+  abbrev pub IsFoundOrMade : List ℕ → Desk (FileStore D g) → Type 0
+  IsFoundOrMade owner desk = (conn : Held (FileStore D g)) × FindsOrMakes over_files conn owner desk

@@ -1,9 +1,10 @@
 //! A desk's file: made, opened and closed.
-ghost use Rattle.std.specs.Prelude.{◌≡◌, None, IfErr, IfOk, IfSome, OnOk, false, true};
+ghost use Rattle.std.specs.Prelude.{◌≡◌, None, IfErr, IfOk, IfSome, IsTrue, OnOk, false, true};
 ghost use Rattle.cli_opening.specs.Closing.{Ends, FailsForGood, IsClosed};
 ghost use Rattle.cli_opening.specs.Faults.{IsClosingRefusal, IsLasting};
-ghost use Rattle.cli_opening.specs.Faults.{IsMakingRefusal, IsOpeningRefusal};
-ghost use Rattle.cli_opening.specs.Opening.{IsMade, IsOpened, Makes, Opens};
+ghost use Rattle.store_schema.specs.Tables.{no_schema};
+ghost use Rattle.cli_opening.specs.Faults.{IsFindingRefusal, IsMakingRefusal, IsOpeningRefusal};
+ghost use Rattle.cli_opening.specs.Opening.{FindsOrMakes, IsFoundOrMade, IsMade, IsOpened, Makes, Opens};
 ghost use Rattle.cli_lines.specs.Faults.{IsFileRefusal, IsRow};
 
 use crate::connecting::{Room, connect};
@@ -12,6 +13,7 @@ use desk_bytes::{Guid, Refusal};
 use desk_store::Desk;
 use sqlite::{Alter, Connection, File, FileStore, Unknown};
 use sqlite_disk::Disk;
+use sqlite_schema::schema::Schema;
 use std::alloc::Global;
 use std::fs::OpenOptions;
 use std::os::unix::fs::OpenOptionsExt;
@@ -131,6 +133,71 @@ pub fn open(rt: &HostRuntime, path: &str, room: Room) -> Result<FileDesk, Refusa
     match is_there(rt, path) {
         Ok(true) => open_there(rt, path, room),
         Ok(false) => Err(Refusal::File),
+        Err(refusal) => Err(refusal),
+    }
+}
+
+/// Whether the schema has no table, no index and no view.
+fn is_bare(schema: &Schema) -> bool
+    ensures { IsTrue result → schema.now ≡ no_schema }
+{
+    if !schema.tables.is_empty() {
+        return false;
+    }
+    if !schema.indexes.is_empty() {
+        return false;
+    }
+    schema.views.is_empty()
+}
+
+/// The desk of a connection; one without calls is made where there is no table at all. The
+/// connection is dropped if there is no desk then.
+fn found_or_made<S: Alter + Drop>(
+    alloc: Global,
+    conn: Connection<S>,
+    owner: &Guid,
+) -> Result<Desk<S>, Refusal>
+    requires { conn.in_transaction ≡ false }
+    ensures found { IfOk result (FindsOrMakes S.Store conn owner.now) }
+    ensures named { IfErr result IsFindingRefusal }
+{
+    match Desk::open(alloc, conn) {
+        Ok(desk) => Ok(desk),
+        Err((refusal, conn)) => {
+            if refusal == Refusal::NotADesk && is_bare(conn.schema()) {
+                return match make_over(alloc, conn, owner) {
+                    Ok(desk) => Ok(desk),
+                    Err(refusal) => Err(refusal),
+                };
+            }
+            let_go(conn);
+            Err(refusal)
+        }
+    }
+}
+
+/// The same in an existing file.
+fn found_there(rt: &HostRuntime, path: &str, owner: &Guid) -> Result<FileDesk, Refusal>
+    ensures found { IfOk result (IsFoundOrMade ⟦<File as Disk>⟧ owner.now) }
+    ensures named { IfErr result IsFindingRefusal }
+{
+    match connect(rt, path, Room::ToGrow, Unknown) {
+        Ok(conn) => match found_or_made(rt.alloc(), conn, owner) {
+            Ok(desk) => Ok(desk),
+            Err(refusal) => Err(refusal),
+        },
+        Err(refusal) => Err(refusal),
+    }
+}
+
+/// Opens a file, which is created if it doesn't exist, for its user alone, and the desk in it. In a
+/// file without a table one with this owner and without calls is made.
+pub fn open_or_make(rt: &HostRuntime, path: &str, owner: &Guid) -> Result<FileDesk, Refusal>
+    ensures found { IfOk result (IsFoundOrMade ⟦<File as Disk>⟧ owner.now) }
+    ensures named { IfErr result IsFindingRefusal }
+{
+    match make_private(rt, path) {
+        Ok(()) => found_there(rt, path, owner),
         Err(refusal) => Err(refusal),
     }
 }

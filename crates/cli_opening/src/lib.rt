@@ -7,6 +7,6 @@ mod laws;
 mod working;
 
 pub use connecting::{Room, connect};
-pub use desk_file::{FileDesk, close_after, make, open};
+pub use desk_file::{FileDesk, close_after, make, open, open_or_make};
 pub use laws::a_failed_close_is_a_device;
 pub use working::{Work, Worked, make_desk, on_desk};

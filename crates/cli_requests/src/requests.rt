@@ -17,6 +17,7 @@ use cli_opening::{Room, Work, Worked, on_desk};
 use desk_answers::OpenDesk;
 use desk_bytes::Refusal;
 use desk_calls::Answering;
+use desk_http::Intake;
 use desk_store::Desk;
 use http_net::{answer_connection, listen, serve};
 use http_requests::Routes;
@@ -39,7 +40,8 @@ fn answer_one<D: Answering, R: Read + Drop, W: Write>(
     ensures done { IfOk result (λ outcome. outcome ≡ Outcome.Done) }
     ensures named { IfErr result (IsRow IsAnsweringRefusal) }
 {
-    match http_net::outcome(answer_connection(alloc, routes, desk, reader, writer)) {
+    let mut intake = Intake::new();
+    match http_net::outcome(answer_connection(alloc, routes, desk, reader, &mut intake, writer)) {
         Ok(()) => Ok(Outcome::Done),
         Err(refusal) => Err(Fault::from(refusal)),
     }

@@ -1,5 +1,4 @@
-//! The subcommands for requests, as they run. They have no clauses, so that a program that calls
-//! them loads none.
+//! The subcommands for requests, on the standard streams.
 use crate::{answer_from, serve_from};
 use cli_lines::Ending;
 

@@ -12,7 +12,7 @@ use Rattle.clap.specs.declared.error.kind.ErrorKind.TheVariants.{OutOfMemory}
 use Rattle.clap.specs.declared.parser.matches.ArgMatches.{ArgMatches}
 use Rattle.clap.proofs.OnLiterals.{clap_on_literals}
 use Rattle.cli_grammar.specs.Commands.{desk_app}
-use Rattle.cli_words.specs.Lines.{ReadsWords, IsPlainWord, Line, Spells, Takes, answer, audit, db, dbx, enrol, facts, impact, init, level, line_found, line_in, line_of, list, minutes, pack, person, ranges, serve, subcommand_name, verdict, words_after}
+use Rattle.cli_words.specs.Lines.{ReadsWords, IsPlainWord, Line, Spells, Takes, answer, audit, db, dbx, enrol, facts, follow, impact, init, level, line_found, line_in, line_of, list, minutes, pack, person, ranges, serve, shim, subcommand_name, verdict, words_after}
 use Rattle.cli_words.specs.declared.line.Words.{Words}
 use Rattle.cli_words.specs.declared.line.WordsFault.{WordsFault}
 use Rattle.cli_words.specs.declared.line.WordsFault.TheVariants.{Missing}
@@ -31,6 +31,7 @@ unfolding clap_on_literals
 begins (init path owner) = record { walks = refl; passes = refl; found = refl; named = refl }
 begins (person path name role key) = record { walks = refl; passes = refl; found = refl; named = refl }
 begins (enrol path name role key) = record { walks = refl; passes = refl; found = refl; named = refl }
+begins (follow path owner file) = record { walks = refl; passes = refl; found = refl; named = refl }
 begins (serve path port count) = record { walks = refl; passes = refl; found = refl; named = refl }
 begins (answer path) = record { walks = refl; passes = refl; found = refl; named = refl }
 begins (facts file) = record { walks = refl; passes = refl; found = refl; named = refl }
@@ -39,6 +40,7 @@ begins (verdict path file) = record { walks = refl; passes = refl; found = refl;
 begins (impact path number) = record { walks = refl; passes = refl; found = refl; named = refl }
 begins (db path) = record { walks = refl; passes = refl; found = refl; named = refl }
 begins (dbx path) = record { walks = refl; passes = refl; found = refl; named = refl }
+begins (shim path) = record { walks = refl; passes = refl; found = refl; named = refl }
 begins (level path) = record { walks = refl; passes = refl; found = refl; named = refl }
 begins (audit owner file export) = record { walks = refl; passes = refl; found = refl; named = refl }
 begins (list file) = record { walks = refl; passes = refl; found = refl; named = refl }
@@ -49,6 +51,7 @@ takes_words : (line : Line) → All IsPlainWord (words_after line) → TakesWord
 takes_words (init path owner) plain = takes_two (codes "init") path owner plain
 takes_words (person path name role key) plain = takes_four (codes "person") path name role key plain
 takes_words (enrol path name role key) plain = takes_four (codes "enrol") path name role key plain
+takes_words (follow path owner file) plain = takes_three (codes "follow") path owner file plain
 takes_words (serve path port count) plain = takes_three (codes "serve") path port count plain
 takes_words (answer path) plain = takes_one (codes "answer") path plain
 takes_words (facts file) plain = takes_one (codes "facts") file plain
@@ -57,6 +60,7 @@ takes_words (verdict path file) plain = takes_two (codes "verdict") path file pl
 takes_words (impact path number) plain = takes_two (codes "impact") path number plain
 takes_words (db path) plain = takes_one (codes "db") path plain
 takes_words (dbx path) plain = takes_one (codes "dbx") path plain
+takes_words (shim path) plain = takes_one (codes "shim") path plain
 takes_words (level path) plain = takes_one (codes "level") path plain
 takes_words (audit owner file None) plain = takes_without owner file plain
 takes_words (audit owner file (Some export)) plain = takes_with owner file export plain
@@ -68,6 +72,7 @@ reads_back : (line : Line) → line_in (subcommand_name line, rows_from 0 (words
 reads_back (init path owner) = refl
 reads_back (person path name role key) = refl
 reads_back (enrol path name role key) = refl
+reads_back (follow path owner file) = refl
 reads_back (serve path port count) = refl
 reads_back (answer path) = refl
 reads_back (facts file) = refl
@@ -76,6 +81,7 @@ reads_back (verdict path file) = refl
 reads_back (impact path number) = refl
 reads_back (db path) = refl
 reads_back (dbx path) = refl
+reads_back (shim path) = refl
 reads_back (level path) = refl
 reads_back (audit owner file None) = refl
 reads_back (audit owner file (Some export)) = refl

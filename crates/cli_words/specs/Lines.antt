@@ -16,6 +16,7 @@ pub data Line : Type 0 where
   person : Text → Text → Text → Text → Line
   enrol : Text → Text → Text → Text → Line
   minutes : Text → Line
+  follow : Text → Text → Text → Line
   serve : Text → Text → Text → Line
   answer : Text → Line
   facts : Text → Line
@@ -24,6 +25,7 @@ pub data Line : Type 0 where
   impact : Text → Text → Line
   db : Text → Line
   dbx : Text → Line
+  shim : Text → Line
   level : Text → Line
   audit : Text → Text → Option Text → Line
   list : Text → Line
@@ -35,6 +37,7 @@ words_of (init path owner) = (codes "init", path ∷ owner ∷ [])
 words_of (person path name role key) = (codes "person", path ∷ name ∷ role ∷ key ∷ [])
 words_of (enrol path name role key) = (codes "enrol", path ∷ name ∷ role ∷ key ∷ [])
 words_of (minutes path) = (codes "minutes", path ∷ [])
+words_of (follow path owner file) = (codes "follow", path ∷ owner ∷ file ∷ [])
 words_of (serve path port count) = (codes "serve", path ∷ port ∷ count ∷ [])
 words_of (answer path) = (codes "answer", path ∷ [])
 words_of (facts file) = (codes "facts", file ∷ [])
@@ -43,6 +46,7 @@ words_of (verdict path file) = (codes "verdict", path ∷ file ∷ [])
 words_of (impact path number) = (codes "impact", path ∷ number ∷ [])
 words_of (db path) = (codes "db", path ∷ [])
 words_of (dbx path) = (codes "dbx", path ∷ [])
+words_of (shim path) = (codes "shim", path ∷ [])
 words_of (level path) = (codes "level", path ∷ [])
 words_of (audit owner file export) = (codes "audit", owner ∷ file ∷ option_to_list export)
 words_of (list file) = (codes "list", file ∷ [])
@@ -62,6 +66,7 @@ line_of (said.Init path owner) = init path.now owner.now
 line_of (said.Person words) = person words.db.now words.name.now words.role.now words.key.now
 line_of (said.Enrol words) = enrol words.db.now words.name.now words.role.now words.key.now
 line_of (said.Minutes path) = minutes path.now
+line_of (said.Follow words) = follow words.db.now words.owner.now words.file.now
 line_of (said.Serve words) = serve words.db.now words.port.now words.count.now
 line_of (said.Answer path) = answer path.now
 line_of (said.Facts file) = facts file.now
@@ -70,6 +75,7 @@ line_of (said.Verdict path file) = verdict path.now file.now
 line_of (said.Impact path number) = impact path.now number.now
 line_of (said.Db path) = db path.now
 line_of (said.Dbx path) = dbx path.now
+line_of (said.Shim path) = shim path.now
 line_of (said.Level path) = level path.now
 line_of (said.Audit words) = audit words.owner.now words.file.now (option_map (λ word. word.now) words.export)
 line_of (said.List file) = list file.now
@@ -83,10 +89,10 @@ with_word rows place next = option_and_then next (first_of (id_of place) rows)
 abbrev pub two_in : (Text → Text → Line) → List Row → Option Line
 two_in line rows = with_word rows 0 (λ word. with_word rows 1 (λ other. Some (line word other)))
 
--- the line of `serve`
-abbrev pub serve_in : List Row → Option Line
-serve_in rows =
-    with_word rows 0 (λ path. with_word rows 1 (λ port. with_word rows 2 (λ count. Some (serve path port count))))
+-- the line of a subcommand of three words, from its rows
+abbrev pub three_in : (Text → Text → Text → Line) → List Row → Option Line
+three_in line rows =
+    with_word rows 0 (λ path. with_word rows 1 (λ word. with_word rows 2 (λ other. Some (line path word other))))
 
 -- the line of `audit`, whose third word may be left out
 abbrev pub audit_in : List Row → Option Line
@@ -108,6 +114,7 @@ of_one_word name word =
     else if bytes_eq name (codes "ranges") then Some (ranges word)
     else if bytes_eq name (codes "db") then Some (db word)
     else if bytes_eq name (codes "dbx") then Some (dbx word)
+    else if bytes_eq name (codes "shim") then Some (shim word)
     else if bytes_eq name (codes "level") then Some (level word)
     else if bytes_eq name (codes "list") then Some (list word)
     else if bytes_eq name (codes "pack") then Some (pack word)
@@ -119,7 +126,8 @@ line_in (name, rows) =
     if bytes_eq name (codes "init") then two_in init rows
     else if bytes_eq name (codes "person") then four_in person rows
     else if bytes_eq name (codes "enrol") then four_in enrol rows
-    else if bytes_eq name (codes "serve") then serve_in rows
+    else if bytes_eq name (codes "follow") then three_in follow rows
+    else if bytes_eq name (codes "serve") then three_in serve rows
     else if bytes_eq name (codes "verdict") then two_in verdict rows
     else if bytes_eq name (codes "impact") then two_in impact rows
     else if bytes_eq name (codes "audit") then audit_in rows

@@ -1,6 +1,6 @@
 //! What the words ask for, with the values that they spell.
 use crate::alone::{facts_of, list_in, pack_input, ranges_of};
-use crate::line::{AuditWords, PersonWords, ServeWords, Words, WordsFault};
+use crate::line::{AuditWords, FollowWords, PersonWords, ServeWords, Words, WordsFault};
 use crate::telling::{MISUSED, tell_fault, tell_stop};
 use crate::values::{
     Place, Stop, enrolled_from, export_named, owner_from, person_from, place_from, proposal_from,
@@ -26,6 +26,13 @@ pub enum Job<'a> {
         db: &'a str,
         key: Key,
         person: Person,
+    },
+    /// Follows the minutes in a file, or those of the standard input if it is named `-`, on a desk
+    /// with this owner.
+    Follow {
+        db: &'a str,
+        owner: Guid,
+        file: &'a str,
     },
     /// Serves requests, one connection after another.
     Serve {
@@ -87,6 +94,13 @@ fn enrol_job<'a>(rt: &HostRuntime, words: PersonWords<'a>) -> Result<Job<'a>, St
     } = words;
     let (key, person) = enrolled_from(rt.alloc(), name, role, key, &mut rt.stdin())?;
     Ok(Job::Add { db, key, person })
+}
+
+/// Follows minutes on a desk.
+fn follow_job(words: FollowWords<'_>) -> Result<Job<'_>, Stop> {
+    let FollowWords { db, owner, file } = words;
+    let owner = owner_from(owner)?;
+    Ok(Job::Follow { db, owner, file })
 }
 
 /// Serves requests.
@@ -151,6 +165,7 @@ fn job_of<'a>(rt: &HostRuntime, line: Words<'a>) -> Result<Option<Job<'a>>, Stop
         Words::Init { db, owner } => at_desk(init_job(db, owner)),
         Words::Person(words) => at_desk(person_job(rt, words)),
         Words::Enrol(words) => at_desk(enrol_job(rt, words)),
+        Words::Follow(words) => at_desk(follow_job(words)),
         Words::Serve(words) => at_desk(serve_job(words)),
         Words::Answer { db } => Ok(Some(Job::Answer { db })),
         Words::Facts { file } => alone(facts_of(rt, file)),
@@ -164,6 +179,10 @@ fn job_of<'a>(rt: &HostRuntime, line: Words<'a>) -> Result<Option<Job<'a>>, Stop
         Words::Dbx { db } => Ok(Some(Job::Export {
             db,
             what: Export::Dbx,
+        })),
+        Words::Shim { db } => Ok(Some(Job::Export {
+            db,
+            what: Export::Shim,
         })),
         Words::Level { db } => Ok(Some(Job::Export {
             db,

@@ -9,7 +9,7 @@ mod values;
 mod words_reading;
 
 pub use jobs::{Given, Job, given_words, read_job};
-pub use line::{AuditWords, PersonWords, ServeWords, Words, WordsFault};
+pub use line::{AuditWords, FollowWords, PersonWords, ServeWords, Words, WordsFault};
 pub use telling::tell_ending;
 pub use values::{
     Place, Stop, Word, enrolled_from, export_named, owner_from, person_from, place_from,

@@ -30,6 +30,14 @@ pub struct AuditWords<'a> {
     pub export: Option<&'a str>,
 }
 
+/// The words of `follow`.
+#[derive(Clone, Copy, Debug, PartialEq, Eq)]
+pub struct FollowWords<'a> {
+    pub db: &'a str,
+    pub owner: &'a str,
+    pub file: &'a str,
+}
+
 /// A subcommand with its words.
 #[derive(Clone, Copy, Debug, PartialEq, Eq)]
 pub enum Words<'a> {
@@ -41,6 +49,8 @@ pub enum Words<'a> {
     Enrol(PersonWords<'a>),
     /// Prints the minutes of the desk in this file.
     Minutes { db: &'a str },
+    /// Follows minutes on the desk in a file, which is made if it is missing.
+    Follow(FollowWords<'a>),
     /// Serves requests to the desk in a file, one connection after another.
     Serve(ServeWords<'a>),
     /// Answers the request on standard input, for the desk in this file.
@@ -57,6 +67,8 @@ pub enum Words<'a> {
     Db { db: &'a str },
     /// Writes the list of revoked images of the desk in this file.
     Dbx { db: &'a str },
+    /// Writes the same in the form that shim reads.
+    Shim { db: &'a str },
     /// Writes the SBAT level of the desk in this file.
     Level { db: &'a str },
     /// Follows the minutes in a file, and prints what the exports of their desk must be.
@@ -79,6 +91,7 @@ impl<'a> Words<'a> {
             "ranges" => Some(Words::Ranges { file: word }),
             "db" => Some(Words::Db { db: word }),
             "dbx" => Some(Words::Dbx { db: word }),
+            "shim" => Some(Words::Shim { db: word }),
             "level" => Some(Words::Level { db: word }),
             "list" => Some(Words::List { file: word }),
             "pack" => Some(Words::Pack { owner: word }),

@@ -3,9 +3,10 @@ ghost use Rattle.std.specs.Prelude.{◌≡◌, ◌<◌, length, map, option_and_
 ghost use Rattle.clap.specs.Words.{Text, first_of, found_of, rows_of, subcommand_rows_of};
 ghost use Rattle.cli_grammar.specs.Commands.{id_of, ids};
 ghost use Rattle.cli_words.specs.Lines.{ReadsWords, Line, Spells, Takes, audit_in, line_in, line_of};
-ghost use Rattle.cli_words.specs.Lines.{enrol, four_in, impact, init, person, serve_in, two_in, verdict};
+ghost use Rattle.cli_words.specs.Lines.{enrol, follow, four_in, impact, init, person, serve, three_in};
+ghost use Rattle.cli_words.specs.Lines.{two_in, verdict};
 
-use crate::line::{AuditWords, PersonWords, ServeWords, Words, WordsFault};
+use crate::line::{AuditWords, FollowWords, PersonWords, ServeWords, Words, WordsFault};
 use clap::ArgMatches;
 use clap::error::ErrorKind;
 use cli_grammar::{desk_command, id_at};
@@ -69,12 +70,22 @@ fn enrol_at<'a>(matches: &ArgMatches<'a>) -> Option<Words<'a>>
 
 /// `serve` with its words.
 fn serve_at<'a>(matches: &ArgMatches<'a>) -> Option<Words<'a>>
-    ensures { option_map line_of result ≡ serve_in (rows_of (found_of matches.now)) }
+    ensures { option_map line_of result ≡ three_in serve (rows_of (found_of matches.now)) }
 {
     let db = word_at(matches, 0)?;
     let port = word_at(matches, 1)?;
     let count = word_at(matches, 2)?;
     Some(Words::Serve(ServeWords { db, port, count }))
+}
+
+/// `follow` with its words.
+fn follow_at<'a>(matches: &ArgMatches<'a>) -> Option<Words<'a>>
+    ensures { option_map line_of result ≡ three_in follow (rows_of (found_of matches.now)) }
+{
+    let db = word_at(matches, 0)?;
+    let owner = word_at(matches, 1)?;
+    let file = word_at(matches, 2)?;
+    Some(Words::Follow(FollowWords { db, owner, file }))
 }
 
 /// `verdict` with its words.
@@ -117,6 +128,7 @@ fn line_at<'a>(name: &'a str, matches: &ArgMatches<'a>) -> Option<Words<'a>>
         "init" => init_at(matches),
         "person" => person_at(matches),
         "enrol" => enrol_at(matches),
+        "follow" => follow_at(matches),
         "serve" => serve_at(matches),
         "verdict" => verdict_at(matches),
         "impact" => impact_at(matches),

@@ -3,6 +3,7 @@
 
 use cli_audit::run_audit;
 use cli_files::{run_add, run_export, run_impact, run_init, run_verdict};
+use cli_follow::run_follow;
 use cli_lines::Ending;
 use cli_requests::{run_answer, run_serve};
 use cli_words::{Job, given_words, read_job, tell_ending};
@@ -13,6 +14,7 @@ fn run(rt: &HostRuntime, job: Job<'_>) -> Ending {
     match job {
         Job::Init { db, owner } => run_init(rt, db, &owner),
         Job::Add { db, key, person } => run_add(rt, db, key, person),
+        Job::Follow { db, owner, file } => run_follow(rt, db, &owner, file),
         Job::Serve { db, place } => run_serve(rt, db, place.port, place.count),
         Job::Answer { db } => run_answer(rt, db),
         Job::Judge { db, file } => run_verdict(rt, db, file),

@@ -1,5 +1,5 @@
 -- Calls that are accepted and are no repeats, and the lines of their minutes.
-use Rattle.std.proofs.Common.{◌≡◌, ◌≢◌, inl, inr, ℕ, ◌+◌, ◌<◌, ◌≤◌, ◌^◌, ◌∙◌, Bool, true, false, not, ◌&&◌, List, [], ◌∷◌, length, Option, Some, None, bytes_eq, refl, sym, ap, arith}
+use Rattle.std.proofs.Common.{◌≡◌, ◌≢◌, ◌⊎◌, inl, inr, Result, Ok, Err, ℕ, ◌+◌, ◌<◌, ◌≤◌, ◌^◌, ◌∙◌, Bool, true, false, not, ◌&&◌, List, [], ◌∷◌, length, Option, Some, None, bytes_eq, refl, sym, ap, subst, arith}
 use Rattle.std.specs.Prelude.{if◌then◌else◌, nat_le, IfNone, IfSome}
 use Rattle.std.specs.List.{list_all}
 use Rattle.std.proofs.lemmas.Bool.{and_parts}
@@ -15,8 +15,16 @@ use Rattle.desk_texts.proofs.FormLemmas.{both, joined}
 use Rattle.desk_history.specs.Calls.{First, History, Item, Rules, Second, is_first, item, under}
 use Rattle.desk_history.specs.Formed.{IsHistory, IsItem}
 use Rattle.desk_history.specs.Limits.{most_calls}
+use Rattle.desk_history.specs.Lives.{IsLeft}
 use Rattle.desk_history.specs.Refusals.{is_known, refusal_of}
-use Rattle.desk_history.specs.Replies.{minute_of, reply_to}
+use Rattle.desk_history.specs.Replies.{minute_of, minutes, reply_to}
+use Rattle.desk_history.specs.Tables.{Tables, tables}
+use Rattle.desk_history.specs.Writes.{all_written}
+use Rattle.desk_rules.specs.Decisions.{Decides}
+use Rattle.desk_rules.specs.declared.view.Changes.{Changes}
+use Rattle.sqlite.specs.State.{State, Survives}
+use Rattle.sqlite.specs.Tree.{Trees}
+use Rattle.store_sql.specs.States.{Leaves}
 use Rattle.desk_history.specs.Runs.{answer, answer_known, earlier, is_accepted, is_legal, joins, may_follow, next, ruling}
 use Rattle.desk_history.specs.declared.answer.Answer.{Answer}
 use Rattle.desk_history.specs.declared.answer.Answer.TheVariants.{Accepted, Refused, Repeated}
@@ -25,15 +33,15 @@ use Rattle.desk_history.proofs.RunLemmas.{newest}
 use Rattle.desk_exports.specs.Exports.{minute_line}
 use Rattle.desk_minutes.specs.Follows.{HasNoNext}
 use Rattle.desk_minutes.specs.Lines.{IsTold, line_with}
-use Rattle.desk_minutes.specs.Minuted.{is_of_second, shows_second}
+use Rattle.desk_minutes.specs.Minuted.{is_of_second}
 use Rattle.desk_minutes.proofs.AlikeLemmas.{alike, minute_same, ruling_same, second_neutral}
 use Rattle.desk_minutes.proofs.LineLemmas.{line_same}
-use Rattle.desk_minutes.proofs.MinutedLemmas.{first_of_first, first_shows_none}
+use Rattle.desk_minutes.proofs.MinutedLemmas.{first_of_first}
 use Rattle.desk_minutes.proofs.SameLemmas.{itself}
 use Rattle.desk_minutes.proofs.TextLemmas.{told_newest}
 use Rattle.store_reads.specs.Failures.{IsFailure}
 use Rattle.desk_audit.specs.Faults.{IsDeskFailure}
-use Rattle.desk_audit.specs.Following.{HasNoneBy, TellsSecond}
+use Rattle.desk_audit.specs.Following.{GoesOn, HasNoneBy, TellsSecond}
 
 -- ---- calls that are accepted
 
@@ -127,15 +135,14 @@ small_number (i ∷ cs) h =
     let few : length (i ∷ cs) ≤ 1000000 = grind (arith, nat_tests, most) in
     omega (arith, few)
 
--- the first rules accept nothing after a reply of the second
-pub none_second : (cs : History) (line : List ℕ) → IsHistory cs → shows_second cs ≡ true → HasNoneBy Second cs line → HasNoNext cs line
-none_second cs line h shows none i formed may same = by i.call i.rules formed may same
+-- the first rules accept nothing after a call by the second
+pub none_past : (cs : History) (line : List ℕ) → list_all is_first cs ≡ false → HasNoneBy Second cs line → HasNoNext cs line
+none_past cs line past none i formed may same = by i.call i.rules formed may same
   where
     by : (d : Call) (s : Rules) → IsCall d → joins cs (under s d) ≡ true → line ≡ minute_line (minute_of cs (under s d)) → ⊥
     by d Second formed may same = none d formed may same
     by d First formed may same =
         let first = (both (is_accepted (ruling cs (under First d))) (list_all is_first cs) may).1 in
-        let quiet = first_shows_none cs h.legal first in
         absurd (cc)
 
 -- ---- calls that aren't accepted, and replies that differ
@@ -155,6 +162,72 @@ read_is cs line n i r is spelt accepted = spelt ∙ ap (line_with n i.call) (sym
 
 pub may_join : (cs : History) (i : Item) (r : Reply) → ruling cs i ≡ Accepted r → may_follow cs i ≡ true → joins cs i ≡ true
 may_join cs i r h e = joined (is_accepted (ruling cs i)) (may_follow cs i) (ap is_accepted h) e
+
+-- a call that may be next, and whose reply is this one, is accepted with it
+accepted_is : (a : Answer) → is_accepted a ≡ true → (given : Reply) × (a ≡ Accepted given)
+accepted_is (Accepted given) h = (given, refl)
+accepted_is (Repeated given) h = absurd (cc)
+accepted_is (Refused refusal) h = absurd (cc)
+
+pub accepted_with : (cs : History) (i : Item) (r : Reply) → joins cs i ≡ true → reply_to cs i ≡ r → ruling cs i ≡ Accepted r
+accepted_with cs i r may due =
+    let it = accepted_is (ruling cs i) (both (is_accepted (ruling cs i)) (may_follow cs i) may).0 in
+    it.1 ∙ ap Accepted (sym (accepted_reply cs i it.0 it.1) ∙ due)
+
+-- ---- a decision that isn't carried out
+
+-- a call with writes is accepted
+pub reply_is_due : (changes : Changes) (owner : List ℕ) (cs : History) (c : Call) → length changes.writes.items ≢ 0 → Decides changes owner cs c → answer cs c ≡ Accepted changes.reply
+reply_is_due changes owner cs c some decides = elim decides.told [ inl accepted ↦ accepted | inr repeated ↦ absurd (some (ap length repeated.1)) ]
+
+-- one without is a repeat: an accepted call writes its own row
+pub none_due : (changes : Changes) (owner : List ℕ) (cs : History) (c : Call) → length changes.writes.items ≡ 0 → Decides changes owner cs c → is_accepted (answer cs c) ≡ false
+none_due changes owner cs c none decides = elim decides.told [
+  | inl accepted ↦ absurd (let same : tables owner cs ≡ tables owner (item c ∷ cs) =
+      sym (ap (λ ws. all_written ws (tables owner cs)) (no_items changes.writes.items none)) ∙ decides.made ∙ ap (tables owner) (accepted_next cs c changes.reply accepted) in
+      let long : length (minutes cs) ≡ length (minutes (item c ∷ cs)) = ap (λ (t : Tables). length t.calls) same in
+      omega (arith, long))
+  | inr repeat ↦ ap is_accepted repeat.0
+]
+  where
+    no_items : {X : Type 0} (xs : List X) → length xs ≡ 0 → xs ≡ []
+    no_items [] h = refl
+    no_items (x ∷ xs) h = absurd (omega (arith, h))
+
+pub no_store : {A : Type 0} (a : A) → ◌≢◌ {A = Result A Refusal} (Ok a) (Err refusals.Store)
+no_store a e = cc
+
+-- a call that commits nothing leaves what it left before
+pub still_leaves : (P : Trees → Type 0) (old new : State) → Survives old new (λ _. ⊥) → Leaves old P → Leaves new P
+still_leaves P old new spared left clean db may = elim (spared.crash clean db may) [
+  | inl was ↦ left (omega (arith, spared.clean, clean)) db was
+  | inr none ↦ absurd none
+]
+
+-- ---- what a stop leaves
+
+-- the history before an accepted call, or the one with it
+pub either : (P : History → Type 0) (cs : History) (c : Call) (r : Reply) (line : List ℕ) → answer cs c ≡ Accepted r → IsCall c → line ≡ minute_line (minute_of cs (item c))
+    → (later : History) → IsLeft cs c later → P later → P cs ⊎ GoesOn Second P cs line
+either P cs c r line accepted formed is later (inl same) p = inl (subst P same p)
+either P cs c r line accepted formed is later (inr next) p = inr (record {
+  call = c;
+  formed = formed;
+  accepted = may_join cs (item c) r accepted refl;
+  is = is;
+  shows = subst P (next ∙ accepted_next cs c r accepted) p;
+})
+
+pub either_first : (P : History → Type 0) (cs : History) (c : Call) (r : Reply) (line : List ℕ) → list_all is_first cs ≡ true → IsCall c → (ruling cs (under First c) ≡ Accepted r → line ≡ minute_line (minute_of cs (under First c)))
+    → P cs ⊎ ((ruling cs (under First c) ≡ Accepted r) × P (under First c ∷ cs)) → P cs ⊎ GoesOn First P cs line
+either_first P cs c r line first formed is (inl p) = inl p
+either_first P cs c r line first formed is (inr next) = inr (record {
+  call = c;
+  formed = formed;
+  accepted = may_join cs (under First c) r next.0 first;
+  is = is next.0;
+  shows = next.1;
+})
 
 -- ---- a device's failure
 

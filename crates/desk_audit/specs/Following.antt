@@ -1,10 +1,11 @@
 -- A desk that follows minutes: its history's minutes are the lines that it was given.
-use Rattle.std.specs.Prelude.{◌≡◌, ◌≢◌, ◌+◌, ℕ, List, ◌∷◌, length, false, true}
+use Rattle.std.specs.Prelude.{◌≡◌, ◌≢◌, ◌⊎◌, ◌+◌, ℕ, List, ◌∷◌, length, false, true}
+use Rattle.sqlite.specs.Held.{state}
 use Rattle.sqlite.specs.Store.{Ghosts}
 use Rattle.desk_texts.specs.Formed.{IsCall}
 use Rattle.desk_texts.specs.declared.command.Call.{Call}
 use Rattle.desk_texts.specs.declared.reply.Reply.{Reply}
-use Rattle.desk_history.specs.Calls.{First, History, Rules, Second, item, under}
+use Rattle.desk_history.specs.Calls.{First, History, Rules, Second, under}
 use Rattle.desk_history.specs.Replies.{minute_of}
 use Rattle.desk_history.specs.Runs.{answer, is_accepted, joins}
 use Rattle.desk_history.specs.declared.answer.Answer.TheVariants.{Accepted}
@@ -12,6 +13,8 @@ use Rattle.desk_exports.specs.Exports.{minute_line}
 use Rattle.desk_minutes.specs.Follows.{HasNoNext}
 use Rattle.desk_minutes.specs.Lines.{IsTold, line_with}
 use Rattle.desk_minutes.specs.Minuted.{is_of_second}
+use Rattle.store_schema.specs.rows.Histories.{HoldsHistory}
+use Rattle.store_sql.specs.States.{Leaves}
 use Rattle.desk_store.specs.Desks.{ForEachShown, ShowsDesk}
 use Rattle.desk_store.specs.declared.desk.Desk.{Desk}
 use Rattle.desk_first.specs.Desks.{ShowsFirstDesk}
@@ -20,6 +23,7 @@ use Rattle.desk_first.specs.declared.desk.FirstDesk.{FirstDesk}
 -- The line is that of a call that these rules accept next, and the history with this call is shown.
 pub record GoesOn (rules : Rules) (shown : History → Type 0) (cs : History) (line : List ℕ) : Type 0 where
   pub call : Call
+  pub formed : IsCall call
   pub accepted : joins cs (under rules call) ≡ true
   pub is : line ≡ minute_line (minute_of cs (under rules call))
   pub shows : shown (under rules call ∷ cs)
@@ -38,9 +42,9 @@ pub record TellsSecond (number : ℕ) (line : List ℕ) : Type 0 where
   pub second : is_of_second reply ≡ true
 
 module _ {S : Type 0} (g : Ghosts S) where
-  -- the call is accepted with this reply, and joins the history that the desk shows
-  abbrev pub Accepts : Desk S → Desk S → Call → Reply → Type 0
-  Accepts old new c reply = ForEachShown g old (λ owner cs. (answer cs c ≡ Accepted reply) × ShowsDesk g new owner (item c ∷ cs))
+  -- the call would be accepted with this reply
+  abbrev pub IsDue : Desk S → Call → Reply → Type 0
+  IsDue desk c reply = ForEachShown g desk (λ owner cs. answer cs c ≡ Accepted reply)
 
   -- the call isn't accepted
   abbrev pub AcceptsNot : Desk S → Call → Type 0
@@ -51,6 +55,13 @@ module _ {S : Type 0} (g : Ghosts S) where
   GoesOnWith old new number line =
       ForEachShown g old (λ owner cs. number ≡ length cs + 1 → GoesOn Second (ShowsDesk g new owner) cs line)
 
+  -- As the line of this number, it may be followed: a stop leaves the history before it, or the one
+  -- with its call.
+  abbrev pub MayStopOnLine : Desk S → Desk S → ℕ → List ℕ → Type 0
+  MayStopOnLine old new number line =
+      ForEachShown g old (λ owner cs. number ≡ length cs + 1
+      → Leaves (state g new.conn) (λ db. HoldsHistory db owner cs ⊎ GoesOn Second (HoldsHistory db owner) cs line))
+
   -- as the line of this number, it is that of no call that the second rules accept next
   abbrev pub EndsBefore : Desk S → ℕ → List ℕ → Type 0
   EndsBefore desk number line = ForEachShown g desk (λ owner cs. number ≡ length cs + 1 → HasNoneBy Second cs line)
@@ -60,6 +71,12 @@ module _ {S : Type 0} (g : Ghosts S) where
   GoesOnByFirst old new number line =
       (owner : List ℕ) (cs : History) → ShowsFirstDesk g old owner cs → number ≡ length cs + 1
       → GoesOn First (ShowsFirstDesk g new owner) cs line
+
+  -- it may be followed by the first rules
+  abbrev pub MayStopOnFirst : FirstDesk S → FirstDesk S → ℕ → List ℕ → Type 0
+  MayStopOnFirst old new number line =
+      (owner : List ℕ) (cs : History) → ShowsFirstDesk g old owner cs → number ≡ length cs + 1
+      → Leaves (state g new.conn) (λ db. HoldsHistory db owner cs ⊎ GoesOn First (HoldsHistory db owner) cs line)
 
   -- as the line of this number, it is that of no call that may come next, by either rules
   abbrev pub EndsBeforeBoth : FirstDesk S → ℕ → List ℕ → Type 0

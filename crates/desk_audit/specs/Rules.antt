@@ -1,30 +1,35 @@
 -- Minutes whose first lines are by the first rules, and whose others are by the second.
-use Rattle.std.specs.Prelude.{◌≡◌, ◌+◌, ℕ, List, length, Option, true}
+use Rattle.std.specs.Prelude.{◌≡◌, ◌+◌, ℕ, List, length, Option, Some, false, true}
+use Rattle.std.specs.List.{list_all}
 use Rattle.std.specs.Io.KnownBytes.{Consumes, IsAtEnd}
 use Rattle.sqlite.specs.Store.{Ghosts}
-use Rattle.desk_history.specs.Calls.{History}
+use Rattle.desk_history.specs.Calls.{GoesOnFrom, History, is_first}
 use Rattle.desk_exports.specs.Exports.{minutes_text}
-use Rattle.desk_minutes.specs.Minuted.{shows_second}
+use Rattle.desk_minutes.specs.Minuted.{as_minuted, shows_second}
 use Rattle.desk_store.specs.declared.desk.Desk.{Desk}
 use Rattle.desk_first.specs.Desks.{ShowsFirstDesk}
 use Rattle.desk_first.specs.declared.desk.FirstDesk.{FirstDesk}
-use Rattle.desk_audit.specs.Audits.{HasFollowed}
 use Rattle.desk_audit.specs.Following.{TellsSecond}
 use Rattle.desk_audit.specs.Lines.{TakesLine}
+use Rattle.desk_audit.specs.Starts.{HasFollowedAfter, Start}
 use Rattle.desk_audit.specs.declared.auditing.FirstEnd.{FirstEnd}
 use Rattle.desk_audit.specs.declared.auditing.FirstEnd.TheVariants.{All, Before}
 
--- The desk shows a history of so many calls by the first rules whose minutes the reader gave.
-pub record HasFollowedFirst {S : Type 0} (g : Ghosts S) (desk : FirstDesk S) (owner : List ℕ) (calls : ℕ) (old new : Option (List ℕ)) : Type 0 where
+-- The desk shows a history of so many calls by the first rules, which goes on from the earlier one
+-- and whose minutes the reader gave.
+pub record HasFollowedFirst {S : Type 0} (g : Ghosts S) (desk : FirstDesk S) (s : Start) (calls : ℕ) (left : Option (List ℕ)) : Type 0 where
   pub history : History
-  pub shows : ShowsFirstDesk g desk owner history
+  pub shows : ShowsFirstDesk g desk s.owner history
+  pub goes_on : GoesOnFrom s.earlier history
   pub count : length history ≡ calls
-  pub given : Consumes old new (minutes_text history)
+  pub given : Consumes (Some s.bytes) left (minutes_text history)
 
--- The desk has followed minutes, some line of which only the second rules give.
-pub record HasFollowedSecond {S : Type 0} (g : Ghosts S) (desk : Desk S) (owner : List ℕ) (calls : ℕ) (old new : Option (List ℕ)) : Type 0 where
-  pub followed : HasFollowed g desk owner calls old new
-  pub second : shows_second followed.history ≡ true
+-- The desk has followed minutes, and some call of its history was accepted by the second rules. If
+-- the earlier history was as its minutes tell it, only these rules give some line.
+pub record HasFollowedSecond {S : Type 0} (g : Ghosts S) (desk : Desk S) (s : Start) (calls : ℕ) (left : Option (List ℕ)) : Type 0 where
+  pub followed : HasFollowedAfter g desk s calls left
+  pub past : list_all is_first followed.history ≡ false
+  pub second : as_minuted s.earlier ≡ s.earlier → shows_second followed.history ≡ true
 
 -- The reader gave the line of this number, the next after so many, which only the second rules give.
 pub record TakesSecond (number : ℕ) (line : List ℕ) (calls : ℕ) (old new : Option (List ℕ)) : Type 0 where
@@ -41,9 +46,9 @@ EndsAt followed (Before number) left line =
 
 module _ {S : Type 0} (g : Ghosts S) where
   -- the desk has followed the lines by the first rules
-  abbrev pub HasBegun : FirstDesk S → List ℕ → FirstEnd → Option (List ℕ) → Option (List ℕ) → List ℕ → Type 0
-  HasBegun desk owner end old new line = EndsAt (λ calls left. HasFollowedFirst g desk owner calls old left) end new line
+  abbrev pub HasBegun : FirstDesk S → Start → FirstEnd → Option (List ℕ) → List ℕ → Type 0
+  HasBegun desk s end left line = EndsAt (λ calls mid. HasFollowedFirst g desk s calls mid) end left line
 
   -- so does a desk that goes on by the second rules
-  abbrev pub HasTurned : Desk S → List ℕ → FirstEnd → Option (List ℕ) → Option (List ℕ) → List ℕ → Type 0
-  HasTurned desk owner end old new line = EndsAt (λ calls left. HasFollowed g desk owner calls old left) end new line
+  abbrev pub HasTurned : Desk S → Start → FirstEnd → Option (List ℕ) → List ℕ → Type 0
+  HasTurned desk s end left line = EndsAt (λ calls mid. HasFollowedAfter g desk s calls mid) end left line

@@ -1,36 +1,53 @@
-//! Calls that are accepted, and are no repeats.
-ghost use Rattle.std.specs.Prelude.{IfErr, IfNone, IfOk, IfSome};
+//! Calls that the second rules accept, and that are no repeats.
+ghost use Rattle.std.specs.Prelude.{◌≡◌, ◌≢◌, IfErr, IfNone, IfOk, IfSome};
 ghost use Rattle.sqlite.specs.Held.{state};
 ghost use Rattle.sqlite.specs.State.{HasCleanDisk};
+ghost use Rattle.store_sql.specs.States.{Spares};
+ghost use Rattle.desk_store.specs.Desks.{KeepsDesk};
 ghost use Rattle.desk_audit.specs.Faults.{IsDeskFailure};
-ghost use Rattle.desk_audit.specs.Following.{Accepts, AcceptsNot};
+ghost use Rattle.desk_audit.specs.Following.{AcceptsNot, IsDue};
 
 use desk_bytes::Refusal;
-use desk_history::Answer;
+use desk_rules::decide;
 use desk_store::Desk;
 use desk_texts::{Call, Reply};
 use sqlite::Alter;
+use std::alloc::Global;
 
-/// The reply to a call that is accepted, which joins the desk's history. `None`: it repeats a call,
-/// or the rules refuse it. Takes memory.
+/// The reply to a call, if it would be accepted and join the desk's history. `None`: it repeats a
+/// call, or the rules refuse it. Nothing changes. Takes memory.
 ///
 /// `NoMemory`: memory was refused. `Store`: the store failed. `Reopen`: it failed before.
-pub(crate) fn reply_to_new<S: Alter + Drop>(
+pub(crate) fn reply_due<S: Alter + Drop>(
+    alloc: Global,
     desk: &mut Desk<S>,
     call: &Call,
 ) -> Result<Option<Reply>, Refusal>
-    ensures accepted { HasCleanDisk (state S.Store desk.new.conn) → IfOk result (λ given.
-        IfSome given (Accepts S.Store desk.old desk.new call.now)) }
-    ensures other { HasCleanDisk (state S.Store desk.new.conn) → IfOk result (λ given.
+    ensures due { HasCleanDisk (state S.Store desk.new.conn) → IfOk result (λ given.
+        IfSome given (IsDue S.Store desk.old call.now)) }
+    ensures none { HasCleanDisk (state S.Store desk.new.conn) → IfOk result (λ given.
         IfNone given (AcceptsNot S.Store desk.old call.now)) }
-    ensures clean { HasCleanDisk (state S.Store desk.new.conn)
-        → HasCleanDisk (state S.Store desk.old.conn) }
+    ensures same { HasCleanDisk (state S.Store desk.new.conn) → IfOk result (λ _.
+        KeepsDesk S.Store desk.old desk.new) }
+    ensures spares { Spares S.Store desk.old.conn desk.new.conn }
     ensures named { IfErr result IsDeskFailure }
 {
-    match desk.answer(&call.caller, &call.key, &call.command) {
-        Ok(Answer::Accepted(reply)) => Ok(Some(reply)),
-        Ok(Answer::Repeated(_)) => Ok(None),
-        Ok(Answer::Refused(_)) => Ok(None),
-        Err(refusal) => Err(refusal),
+    let view = match desk.view(&call.caller, &call.key, &call.command) {
+        Ok(view) => view,
+        Err(refusal) => return Err(refusal),
+    };
+    match decide(alloc, &view, &call.caller, &call.key, &call.command) {
+        Ok(changes) => {
+            if changes.writes.is_empty() {
+                return Ok(None);
+            }
+            Ok(Some(changes.reply))
+        }
+        Err(refusal) => {
+            if refusal == Refusal::NoMemory {
+                return Err(Refusal::NoMemory);
+            }
+            Ok(None)
+        }
     }
 }

@@ -1,12 +1,13 @@
 //! Minutes, followed from the first line to the last.
-ghost use Rattle.std.specs.Prelude.{◌≡◌, ◌≢◌, ℕ, List, [], Err, IfErr, IfOk, IfSome, Option, Some};
+ghost use Rattle.std.specs.Prelude.{◌≡◌, ◌≢◌, ℕ, [], Err, IfErr, IfOk, Some};
 ghost use Rattle.sqlite.specs.Held.{state};
 ghost use Rattle.sqlite.specs.State.{HasCleanDisk};
+ghost use Rattle.desk_store.specs.Desks.{ShowsDesk};
 ghost use Rattle.desk_first.specs.Desks.{ShowsFirstDesk};
-ghost use Rattle.desk_audit.specs.Audits.{HasFollowed, IsWrongAt};
 ghost use Rattle.desk_audit.specs.Faults.{IsCaused, IsFollowFault};
+ghost use Rattle.desk_audit.specs.Starts.{HasFollowedAfter, IsWrongAfter, LeavesFollowed, Start};
+ghost use Rattle.desk_audit.specs.Rules.{HasBegun, HasFollowedFirst, HasFollowedSecond, HasTurned};
 ghost use Rattle.desk_audit.specs.declared.lines.LineWatch.{LineWatch};
-ghost use Rattle.desk_audit.specs.Rules.{HasBegun, HasFollowedSecond, HasTurned};
 
 use crate::beginning::{Step, follow_first};
 use crate::following::{FollowFault, follow};
@@ -51,8 +52,8 @@ fn at_line(number: u64, fault: FollowFault) -> AuditFault
     }
 }
 
-/// Follows minutes by the first rules, line by line, on a desk without calls, up to their end or to
-/// a line that only the second rules give. That line is in the buffer then. Takes memory for one
+/// Follows minutes by the first rules, line by line, on a desk of so many calls, up to their end or
+/// to a line that only the second rules give. That line is in the buffer then. Takes memory for one
 /// line, and the store's.
 ///
 /// `Line`: the first line that isn't what the rules give; a last line without a line break is such
@@ -61,23 +62,26 @@ fn at_line(number: u64, fault: FollowFault) -> AuditFault
 pub(crate) fn follow_beginning<S: Alter + Drop, R: BufRead>(
     alloc: Global,
     desk: &mut FirstDesk<S>,
+    before: u64,
     reader: &mut R,
     watch: &mut LineWatch,
     line: &mut Vec<u8>,
 ) -> Result<FirstEnd, AuditFault>
     ensures ok { HasCleanDisk (state S.Store desk.new.conn) → IfOk result (λ end.
-        (owner : List ℕ) → ShowsFirstDesk S.Store desk.old owner []
-        → HasBegun S.Store desk.new owner end (R.remaining reader.old) (R.remaining reader.new)
-        line.new.items) }
+        (s : Start) → HasFollowedFirst S.Store desk.old s before (R.remaining reader.old)
+        → HasBegun S.Store desk.new s end (R.remaining reader.new) line.new.items) }
     ensures wrong { HasCleanDisk (state S.Store desk.new.conn) → IfErr result (λ fault. (n : ℕ)
-        → fault ≡ AuditFault.Line n → (owner : List ℕ) → ShowsFirstDesk S.Store desk.old owner []
-        → IfSome (R.remaining reader.old) (λ given. IsWrongAt given n)) }
+        → fault ≡ AuditFault.Line n
+        → (s : Start) → HasFollowedFirst S.Store desk.old s before (R.remaining reader.old)
+        → IsWrongAfter (ShowsFirstDesk S.Store desk.new s.owner) s n) }
+    ensures stopped { (s : Start) → HasFollowedFirst S.Store desk.old s before (R.remaining reader.old)
+        → LeavesFollowed (state S.Store desk.new.conn) s }
     ensures clean { HasCleanDisk (state S.Store desk.new.conn)
         → HasCleanDisk (state S.Store desk.old.conn) }
     ensures named { IfErr result (IsCaused watch.new) }
     ensures steady { result ≢ Err (AuditFault.Device Refusal.Read) → watch.new ≡ watch.old }
 {
-    let mut calls = 0;
+    let mut calls = before;
     while calls < u64::MAX {
         match watch.next_line(reader, line) {
             Ok(true) => {}
@@ -94,13 +98,14 @@ pub(crate) fn follow_beginning<S: Alter + Drop, R: BufRead>(
     Err(AuditFault::Device(Refusal::Store))
 }
 
-/// Follows the lines of minutes that are left after so many, one of which only the second rules
-/// give: the count of all. Takes memory for one line, and the store's.
+/// Follows the lines of minutes that are left after so many by the second rules, on a desk of so
+/// many calls, of which one was accepted by these rules: the count of all. Takes memory for one
+/// line, and the store's.
 ///
 /// `Line`: the first line that isn't what the rules give; a last line without a line break is such
 /// a line. `Device`: memory was refused (`NoMemory`), the reader failed (`Read`), or the store
 /// failed or had more calls than a desk has (`Store`), or had failed before (`Reopen`).
-fn follow_rest<S: Alter + Drop, R: BufRead>(
+pub fn follow_rest<S: Alter + Drop, R: BufRead>(
     alloc: Global,
     desk: &mut Desk<S>,
     before: u64,
@@ -109,14 +114,14 @@ fn follow_rest<S: Alter + Drop, R: BufRead>(
     line: &mut Vec<u8>,
 ) -> Result<u64, AuditFault>
     ensures ok { HasCleanDisk (state S.Store desk.new.conn) → IfOk result (λ calls.
-        (owner : List ℕ) (first : Option (List ℕ))
-        → HasFollowedSecond S.Store desk.old owner before first (R.remaining reader.old)
-        → IfSome first (λ given.
-        HasFollowed S.Store desk.new owner calls (Some given) (Some []))) }
+        (s : Start) → HasFollowedSecond S.Store desk.old s before (R.remaining reader.old)
+        → HasFollowedAfter S.Store desk.new s calls (Some [])) }
     ensures wrong { HasCleanDisk (state S.Store desk.new.conn) → IfErr result (λ fault. (n : ℕ)
-        → fault ≡ AuditFault.Line n → (owner : List ℕ) (first : Option (List ℕ))
-        → HasFollowedSecond S.Store desk.old owner before first (R.remaining reader.old)
-        → IfSome first (λ given. IsWrongAt given n)) }
+        → fault ≡ AuditFault.Line n
+        → (s : Start) → HasFollowedSecond S.Store desk.old s before (R.remaining reader.old)
+        → IsWrongAfter (ShowsDesk S.Store desk.new s.owner) s n) }
+    ensures stopped { (s : Start) → HasFollowedSecond S.Store desk.old s before (R.remaining reader.old)
+        → LeavesFollowed (state S.Store desk.new.conn) s }
     ensures clean { HasCleanDisk (state S.Store desk.new.conn)
         → HasCleanDisk (state S.Store desk.old.conn) }
     ensures named { IfErr result (IsCaused watch.new) }
@@ -154,14 +159,16 @@ pub(crate) fn follow_on<S: Alter + Drop, R: BufRead>(
     line: &mut Vec<u8>,
 ) -> Result<u64, AuditFault>
     ensures ok { HasCleanDisk (state S.Store desk.new.conn) → IfOk result (λ calls.
-        (owner : List ℕ) (first : Option (List ℕ))
-        → HasTurned S.Store desk.old owner end first (R.remaining reader.old) line.old.items
-        → IfSome first (λ given.
-        HasFollowed S.Store desk.new owner calls (Some given) (Some []))) }
+        (s : Start) → HasTurned S.Store desk.old s end (R.remaining reader.old) line.old.items
+        → HasFollowedAfter S.Store desk.new s calls (Some [])) }
     ensures wrong { HasCleanDisk (state S.Store desk.new.conn) → IfErr result (λ fault. (n : ℕ)
-        → fault ≡ AuditFault.Line n → (owner : List ℕ) (first : Option (List ℕ))
-        → HasTurned S.Store desk.old owner end first (R.remaining reader.old) line.old.items
-        → IfSome first (λ given. IsWrongAt given n)) }
+        → fault ≡ AuditFault.Line n
+        → (s : Start) → HasTurned S.Store desk.old s end (R.remaining reader.old) line.old.items
+        → IsWrongAfter (ShowsDesk S.Store desk.new s.owner) s n) }
+    ensures stopped { (s : Start) → HasTurned S.Store desk.old s end (R.remaining reader.old) line.old.items
+        → LeavesFollowed (state S.Store desk.new.conn) s }
+    ensures clean { HasCleanDisk (state S.Store desk.new.conn)
+        → HasCleanDisk (state S.Store desk.old.conn) }
     ensures named { IfErr result (IsCaused watch.new) }
     ensures steady { result ≢ Err (AuditFault.Device Refusal.Read) → watch.new ≡ watch.old }
 {

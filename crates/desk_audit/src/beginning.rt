@@ -4,9 +4,11 @@ ghost use Rattle.sqlite.specs.Held.{state};
 ghost use Rattle.sqlite.specs.State.{HasCleanDisk};
 ghost use Rattle.desk_minutes.specs.Minuted.{is_of_second};
 ghost use Rattle.desk_audit.specs.Faults.{IsFollowFault};
-ghost use Rattle.desk_audit.specs.Following.{EndsBeforeBoth, GoesOnByFirst, TellsSecond};
+ghost use Rattle.desk_first.specs.Desks.{KeepsFirst};
+ghost use Rattle.desk_audit.specs.Following.{EndsBeforeBoth, GoesOnByFirst, MayStopOnFirst};
+ghost use Rattle.desk_audit.specs.Following.{TellsSecond};
 
-use crate::following::{FollowFault, is_due, read_line};
+use crate::following::{FollowFault, read_line};
 use desk_first::FirstDesk;
 use desk_texts::Reply;
 use sqlite::Alter;
@@ -33,11 +35,11 @@ fn needs_second(reply: &Reply) -> bool
 
 /// Follows a line of minutes, with its line break, as the line of this number: its call is accepted
 /// by the first rules and joins the desk's history, and number, caller, key, text and reply of the
-/// line are what these rules give. A line with a reply that only the second rules give changes
-/// nothing. Takes memory for the call.
+/// line are what these rules give. Otherwise nothing is committed; a line with a reply that only the
+/// second rules give changes nothing. Takes memory for the call.
 ///
-/// `Line`: it is the line of no call that may come next, by either rules. After any fault the desk
-/// shows nothing that is promised.
+/// `Line`: it is the line of no call that may come next, by either rules, and the desk shows the
+/// same history. After another fault the desk shows nothing that is promised.
 pub(crate) fn follow_first<S: Alter + Drop>(
     alloc: Global,
     desk: &mut FirstDesk<S>,
@@ -49,7 +51,9 @@ pub(crate) fn follow_first<S: Alter + Drop>(
     ensures second { IfOk result (λ step. step ≡ Step.Second
         → (desk.new ≡ desk.old) × TellsSecond number line.now) }
     ensures wrong { HasCleanDisk (state S.Store desk.new.conn)
-        → IsErrOf result FollowFault.Line → EndsBeforeBoth S.Store desk.old number line.now }
+        → IsErrOf result FollowFault.Line → EndsBeforeBoth S.Store desk.old number line.now
+        × KeepsFirst S.Store desk.old desk.new }
+    ensures stopped { MayStopOnFirst S.Store desk.old desk.new number line.now }
     ensures clean { HasCleanDisk (state S.Store desk.new.conn)
         → HasCleanDisk (state S.Store desk.old.conn) }
     ensures named { IfErr result IsFollowFault }
@@ -61,13 +65,9 @@ pub(crate) fn follow_first<S: Alter + Drop>(
     if needs_second(&read.reply) {
         return Ok(Step::Second);
     }
-    let given = match desk.follow(&read.call) {
-        Ok(given) => given,
-        Err(refusal) => return Err(FollowFault::Device(refusal)),
-    };
-    if is_due(given, &read.reply) {
-        Ok(Step::Joined)
-    } else {
-        Err(FollowFault::Line)
+    match desk.follow(&read.call, &read.reply) {
+        Ok(true) => Ok(Step::Joined),
+        Ok(false) => Err(FollowFault::Line),
+        Err(refusal) => Err(FollowFault::Device(refusal)),
     }
 }

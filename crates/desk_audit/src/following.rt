@@ -6,10 +6,12 @@ ghost use Rattle.desk_texts.specs.declared.command.Call.{Call};
 ghost use Rattle.desk_texts.specs.declared.reply.Reply.{Reply};
 ghost use Rattle.desk_minutes.specs.Lines.{IsTold, line_with};
 ghost use Rattle.desk_audit.specs.Faults.{IsFollowFault};
-ghost use Rattle.desk_audit.specs.Following.{EndsBefore, GoesOnWith};
+ghost use Rattle.desk_store.specs.Desks.{KeepsDesk};
+ghost use Rattle.desk_audit.specs.Following.{EndsBefore, GoesOnWith, MayStopOnLine};
 
-use crate::applying::reply_to_new;
+use crate::applying::reply_due;
 use desk_bytes::Refusal;
+use desk_first::is_same_reply;
 use desk_minutes::{MinuteRead, read_minute};
 use desk_store::Desk;
 use desk_texts::{Reply, TextFault};
@@ -43,47 +45,23 @@ pub(crate) fn read_line(alloc: Global, number: u64, line: &[u8]) -> Result<Minut
     }
 }
 
-/// Whether the replies are the same.
-fn is_same(one: &Reply, other: &Reply) -> bool
-    ensures same { result ≡ true → one.now ≡ other.now }
-    ensures differ { result ≡ false → one.now ≢ other.now }
-{
-    match one {
-        Reply::Added(name) => {
-            matches!(other, Reply::Added(told) if name.as_str() == told.as_str())
-        }
-        Reply::Submitted(number) => matches!(other, Reply::Submitted(told) if number == told),
-        Reply::Reviewed(outcome) => matches!(other, Reply::Reviewed(told) if outcome == told),
-        Reply::Withdrawn(number) => matches!(other, Reply::Withdrawn(told) if number == told),
-        Reply::Returned(number) => matches!(other, Reply::Returned(told) if number == told),
-        Reply::Listed => matches!(other, Reply::Listed),
-        Reply::Unlisted => matches!(other, Reply::Unlisted),
-        Reply::Revoked => matches!(other, Reply::Revoked),
-        Reply::Raised => matches!(other, Reply::Raised),
-        Reply::Imported(counts) => matches!(other, Reply::Imported(told) if counts == told),
-        Reply::Proposed(number) => matches!(other, Reply::Proposed(told) if number == told),
-        Reply::Confirmed(made) => matches!(other, Reply::Confirmed(told) if made == told),
-        Reply::Dropped(number) => matches!(other, Reply::Dropped(told) if number == told),
-    }
-}
-
 /// Whether the rules accept a line's call, with the reply that the line tells.
 pub(crate) fn is_due(given: Option<Reply>, told: &Reply) -> bool
     ensures same { result ≡ true → given ≡ Some told.now }
     ensures differ { result ≡ false → given ≢ Some told.now }
 {
     match given {
-        Some(reply) => is_same(&reply, told),
+        Some(reply) => is_same_reply(&reply, told),
         None => false,
     }
 }
 
 /// Follows a line of minutes, with its line break, as the line of this number: its call is accepted
 /// by the second rules and joins the desk's history, and number, caller, key, text and reply of the
-/// line are what these rules give. Takes memory for the call.
+/// line are what these rules give. Otherwise nothing is committed. Takes memory for the call.
 ///
-/// `Line`: it is the line of no call that they accept next. After any fault the desk shows nothing
-/// that is promised.
+/// `Line`: it is the line of no call that they accept next, and the desk shows the same history.
+/// After another fault the desk shows nothing that is promised.
 pub(crate) fn follow<S: Alter + Drop>(
     alloc: Global,
     desk: &mut Desk<S>,
@@ -93,7 +71,9 @@ pub(crate) fn follow<S: Alter + Drop>(
     ensures ok { HasCleanDisk (state S.Store desk.new.conn)
         → OnOk result (GoesOnWith S.Store desk.old desk.new number line.now) }
     ensures wrong { HasCleanDisk (state S.Store desk.new.conn)
-        → IsErrOf result FollowFault.Line → EndsBefore S.Store desk.old number line.now }
+        → IsErrOf result FollowFault.Line → EndsBefore S.Store desk.old number line.now
+        × KeepsDesk S.Store desk.old desk.new }
+    ensures stopped { MayStopOnLine S.Store desk.old desk.new number line.now }
     ensures clean { HasCleanDisk (state S.Store desk.new.conn)
         → HasCleanDisk (state S.Store desk.old.conn) }
     ensures named { IfErr result IsFollowFault }
@@ -102,13 +82,15 @@ pub(crate) fn follow<S: Alter + Drop>(
         Ok(read) => read,
         Err(fault) => return Err(fault),
     };
-    let given = match reply_to_new(desk, &read.call) {
-        Ok(given) => given,
+    let due = match reply_due(alloc, desk, &read.call) {
+        Ok(due) => due,
         Err(refusal) => return Err(FollowFault::Device(refusal)),
     };
-    if is_due(given, &read.reply) {
-        Ok(())
-    } else {
-        Err(FollowFault::Line)
+    if !is_due(due, &read.reply) {
+        return Err(FollowFault::Line);
+    }
+    match desk.answer(&read.call.caller, &read.call.key, &read.call.command) {
+        Ok(_) => Ok(()),
+        Err(refusal) => Err(FollowFault::Device(refusal)),
     }
 }

@@ -7,7 +7,9 @@ mod beginning;
 mod following;
 mod lines;
 mod memory;
+mod turning;
 
-pub use auditing::AuditFault;
+pub use auditing::{AuditFault, follow_rest};
 pub use lines::LineWatch;
 pub use memory::{Audited, audit, in_memory};
+pub use turning::{Followed, follow_from_first};

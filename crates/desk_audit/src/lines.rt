@@ -68,7 +68,7 @@ impl LineWatch {
     /// isn't retried. Takes memory for the line.
     ///
     /// `NoMemory`: memory was refused. `Read`: a read failed.
-    pub(crate) fn next_line<R: BufRead>(
+    pub fn next_line<R: BufRead>(
         &mut self,
         reader: &mut R,
         line: &mut Vec<u8>,

@@ -10,8 +10,9 @@ ghost use Rattle.desk_audit.specs.Faults.{IsCaused, IsCausedInMemory, IsDeskFail
 ghost use Rattle.desk_audit.specs.declared.lines.LineWatch.{LineWatch};
 ghost use Rattle.memory_disk.specs.Disks.{over_memory};
 
-use crate::auditing::{AuditFault, follow_beginning, follow_on};
+use crate::auditing::AuditFault;
 use crate::lines::LineWatch;
+use crate::turning::{Followed, follow_from_first};
 use desk_bytes::{Guid, Refusal};
 use desk_first::FirstDesk;
 use desk_store::Desk;
@@ -94,20 +95,17 @@ pub fn audit<R: BufRead>(
     ensures named { IfErr result (IsCausedInMemory watch.new) }
     ensures steady { result ≢ Err (AuditFault.Device Refusal.Read) → watch.new ≡ watch.old }
 {
-    let mut first = match begun(alloc, owner) {
+    let first = match begun(alloc, owner) {
         Ok(first) => first,
         Err(refusal) => return Err(AuditFault::Device(in_memory(refusal))),
     };
     let mut line = Vec::new(alloc);
-    let end = match follow_beginning(alloc, &mut first, reader, watch, &mut line) {
-        Ok(end) => end,
-        Err(fault) => return Err(fault_in_memory(fault)),
+    let run = match follow_from_first(alloc, first, 0, reader, watch, &mut line) {
+        Ok(run) => run,
+        Err(refused) => return Err(fault_in_memory(AuditFault::Device(refused.0))),
     };
-    let mut desk = match first.into_desk() {
-        Ok(desk) => desk,
-        Err(refusal) => return Err(AuditFault::Device(in_memory(refusal))),
-    };
-    match follow_on(alloc, &mut desk, end, reader, watch, &mut line) {
+    let Followed { desk, result } = run;
+    match result {
         Ok(calls) => Ok(Audited { desk, calls }),
         Err(fault) => Err(fault_in_memory(fault)),
     }

@@ -68,7 +68,7 @@ pub enum Refusal {
     AlreadyReviewed,
     /// The returned file isn't the image that was reviewed.
     DigestDiffers,
-    /// The image is revoked.
+    /// The image is barred: revoked, or below the level.
     Revoked,
     /// Neither the image's digest nor a certificate that it carries is listed.
     NotListed,

@@ -1,5 +1,6 @@
 -- The step from the result of a desk to the answer.
-use Rattle.std.proofs.Common.{◌≡◌, ◌≢◌, inl, inr, ℕ, List, [], Some, None, Result, Ok, Err, refl, sym, ap, subst}
+use Rattle.std.proofs.Common.{◌≡◌, ◌≢◌, ◌⊎◌, inl, inr, ℕ, List, [], Some, None, Result, Ok, Err, IfOk, refl, sym, subst}
+use Rattle.std.specs.declared.alloc.AllocError.{AllocError}
 use Rattle.desk_bytes.specs.declared.refusal.Refusal.{Refusal}
 use Rattle.desk_bytes.specs.declared.refusal.Refusal.TheVariants as refusals
 use Rattle.desk_texts.specs.declared.command.Command.{Command}
@@ -14,22 +15,24 @@ use Rattle.desk_history.specs.declared.answer.Answer.TheVariants as ruled
 use Rattle.desk_exports.specs.Readings.{IsShownTo}
 use Rattle.desk_exports.specs.declared.reading.Reading.{Reading}
 use Rattle.desk_exports.specs.declared.shown.Shown.{Shown}
-use Rattle.http_responses.specs.Refusals.{refused_of}
+use Rattle.http_responses.specs.Refusals.{outage_refusal}
+use Rattle.http_responses.specs.declared.outage.Outage.{Outage}
 use Rattle.http_responses.specs.declared.outage.Outage.TheVariants as outage
 use Rattle.http_responses.specs.declared.refused.Refused.{Refused}
-use Rattle.http_responses.specs.declared.refused.Refused.TheVariants as refused
-use Rattle.desk_calls.specs.Answers.{IsClosed, IsRead, IsReadAndTaken, IsRefusal, IsRuled, IsTaken, Judges, Serves, ShowsAsked, call_of}
-use Rattle.desk_calls.specs.Bodies.{Gives, ReadsFacts, RefusesImage}
+use Rattle.desk_calls.specs.Answers.{IsClosed, IsRead, IsReadAndTaken, IsRefusal, IsRuled, IsTaken, IsTakenIfRead, Judges, Serves, ShowsAsked, call_of, no_memory, store_failed}
+use Rattle.desk_calls.specs.Bodies.{ReadsFacts, RefusesImage}
 use Rattle.desk_calls.specs.Desks.{IsOutage, IsShut, is_text_of}
 use Rattle.desk_calls.specs.declared.answers.Answer.{Answer}
 use Rattle.desk_calls.specs.declared.answers.Answer.TheVariants as answer
-use Rattle.desk_calls.proofs.RefusalLemmas.{apart, placeless}
+use Rattle.desk_calls.proofs.RefusalLemmas.{apart, outage_told}
 
-told_memory : (r : Refusal) (x : Refused) → refused_of r ≡ Some x → r ≡ refusals.NoMemory → x ≡ refused.Unavailable outage.NoMemory
-told_memory r x is e = let h : Some (refused.Unavailable outage.NoMemory) ≡ Some x = subst (λ y. refused_of y ≡ Some x) e is in cc
+-- the answer of a refusal for an outage's row says that outage
+told_as : (o : Outage) (r : Refusal) (a : Answer) → IsRefusal r a → r ≡ outage_refusal o → a ≡ answer.Unavailable o
+told_as o r a is e = outage_told o a (subst (λ row. IsRefusal row a) e is)
 
-told_store : (r : Refusal) (x : Refused) → refused_of r ≡ Some x → r ≡ refusals.Store → x ≡ refused.Unavailable outage.Store
-told_store r x is e = let h : Some (refused.Unavailable outage.Store) ≡ Some x = subst (λ y. refused_of y ≡ Some x) e is in cc
+-- and an answer that the store failed is of its row
+pub store_told : (r : Refusal) (a : Answer) → IsRefusal r a → a ≡ store_failed → r ≡ refusals.Store
+store_told r a is e = sym (subst (IsRefusal r) e is)
 
 -- an outage of a desk that was usable is refused memory or a failed store
 pub no_third : (r : Refusal) → IsOutage r → r ≢ refusals.Reopen → r ≢ refusals.NoMemory → r ≢ refusals.Store → ⊥
@@ -38,14 +41,13 @@ no_third r (inr (inl e)) no_reopen no_memory no_store = no_store e
 no_third r (inr (inr e)) no_reopen no_memory no_store = no_reopen e
 
 -- a refusal of the desk is an outage, or the answer that is due
-pub serves_refusal : (after : History → Type 0) (failed : Type 0) (cs : History) (due : Answer → History → Type 0) (r : Refusal) (x : Refused)
-    → refused_of r ≡ Some x → (r ≢ refusals.Store → after cs) → (r ≡ refusals.Store → failed)
-    → (r ≢ refusals.NoMemory → r ≢ refusals.Store → IsRefusal r (answer.Refused x) → due (answer.Refused x) cs)
-    → Serves after failed cs due (answer.Refused x)
-serves_refusal after failed cs due r x is same fails told = elim (apart r) [
-  | inl memory ↦ inr (inl (ap answer.Refused (told_memory r x is memory), same (λ e. let h : refusals.NoMemory ≡ refusals.Store = cc in cc)))
-  | inr (inl store) ↦ inr (inr (ap answer.Refused (told_store r x is store), fails store))
-  | inr (inr others) ↦ inl (cs, told others.0 others.1 (record { refused = x; told = placeless r x is; is = refl }), same others.1)
+pub serves_refusal : (after : History → Type 0) (failed : Type 0) (cs : History) (due : Answer → History → Type 0) (r : Refusal) (a : Answer)
+    → IsRefusal r a → (r ≢ refusals.Store → after cs) → (r ≡ refusals.Store → failed)
+    → (r ≢ refusals.NoMemory → r ≢ refusals.Store → IsRefusal r a → due a cs) → Serves after failed cs due a
+serves_refusal after failed cs due r a is same fails told = elim (apart r) [
+  | inl memory ↦ inr (inl (told_as outage.NoMemory r a is memory, same (λ e. let h : refusals.NoMemory ≡ refusals.Store = cc in cc)))
+  | inr (inl store) ↦ inr (inr (told_as outage.Store r a is store, fails store))
+  | inr (inr others) ↦ inl (cs, told others.0 others.1 is, same others.1)
 ]
 
 -- the reply of the rules is the answer
@@ -62,14 +64,11 @@ taken_refusal cs name key command r a is told =
 
 -- a body that is read so is taken as it was read
 pub serves_read : (after : History → Type 0) (failed : Type 0) (cs : History) (name key : List ℕ) (reads : Result Command Refused → Type 0)
-    (read : Result Command Refused) (a : Answer)
-    → Gives reads read → Serves after failed cs (IsTaken cs name key read) a → Serves after failed cs (IsReadAndTaken cs name key reads) a
-serves_read after failed cs name key reads read a (inl is) (inl served) = inl (served.0, (read, is, served.1), served.2)
-serves_read after failed cs name key reads read a (inl is) (inr others) = inr others
-serves_read after failed cs name key reads read a (inr no_memory) (inl served) =
-    let taken : IsTaken cs name key (Err (refused.Unavailable outage.NoMemory)) a served.0 = subst (λ r. IsTaken cs name key r a served.0) no_memory served.1 in
-    inr (inl (taken.0, subst after taken.1 served.2))
-serves_read after failed cs name key reads read a (inr no_memory) (inr others) = inr others
+    (read : Result (Result Command Refused) AllocError) (a : Answer)
+    → IfOk read reads → Serves after failed cs (IsTakenIfRead cs name key read) a → Serves after failed cs (IsReadAndTaken cs name key reads) a
+serves_read after failed cs name key reads (Ok body) a is (inl served) = inl (served.0, (body, is, served.1), served.2)
+serves_read after failed cs name key reads (Err e) a is (inl served) = inr (inl (served.1.0, subst after served.1.1 served.2))
+serves_read after failed cs name key reads read a is (inr others) = inr others
 
 -- a reply of the rules is the answer
 pub serves_reply : (after : History → Type 0) (failed : Type 0) (cs : History) (name key : List ℕ) (command : Command) (reply : Reply)
@@ -79,9 +78,9 @@ serves_reply after failed cs name key command reply said shown =
     inl (runs.next cs (call_of name key command), (ruled_reply (runs.answer cs (call_of name key command)) reply said, refl), shown)
 
 -- the same where the command is read as another that it is
-pub serves_same : (after : History → Type 0) (failed : Type 0) (cs : History) (name key : List ℕ) (x y : Result Command Refused) (a : Answer)
-    → x ≡ y → Serves after failed cs (IsTaken cs name key x) a → Serves after failed cs (IsTaken cs name key y) a
-serves_same after failed cs name key x y a e h = subst (λ read. Serves after failed cs (IsTaken cs name key read) a) e h
+pub serves_same : (after : History → Type 0) (failed : Type 0) (cs : History) (name key : List ℕ) (x y : Result (Result Command Refused) AllocError) (a : Answer)
+    → x ≡ y → Serves after failed cs (IsTakenIfRead cs name key x) a → Serves after failed cs (IsTakenIfRead cs name key y) a
+serves_same after failed cs name key x y a e h = subst (λ read. Serves after failed cs (IsTakenIfRead cs name key read) a) e h
 
 -- the two requests are the same
 pub serves_as : {A : Type 0} → (after : History → Type 0) (failed : Type 0) (cs : History) (due : A → Answer → History → Type 0) (x y : A) (a : Answer)
@@ -99,36 +98,38 @@ pub told_refusal : (owner : List ℕ) (cs : History) (p : Person) (reading : Rea
     → IsShownTo is_text_of owner cs p reading (Err r) → IsRefusal r a → IsRead cs (ShowsAsked owner cs p reading) a cs
 told_refusal owner cs p reading r a due is = ((Err r, due, is), refl)
 
+-- an answer that is the same at every history, unless memory was refused
+pub serves_told : (after : History → Type 0) (failed : Type 0) (cs : History) (due : Answer → Type 0) (a : Answer)
+    → due a ⊎ (a ≡ no_memory) → after cs → Serves after failed cs (IsRead cs due) a
+serves_told after failed cs due a (inl told) still = inl (cs, (told, refl), still)
+serves_told after failed cs due a (inr memory) still = inr (inl (memory, still))
+
 -- ---- a desk that has failed
 
+-- such an answer is due, unless memory was refused
+pub closed_told : (due : Answer → Type 0) (a : Answer) → due a ⊎ (a ≡ no_memory) → IsClosed (λ owner cs. IsRead cs due) a
+closed_told due a (inl told) = inr (inr (λ owner cs. (told, refl)))
+closed_told due a (inr memory) = inr (inl memory)
+
 -- a body that is read so is taken as it was read
-pub closed_read : (name key : List ℕ) (reads : Result Command Refused → Type 0) (read : Result Command Refused) (a : Answer)
-    → Gives reads read → IsClosed (λ owner cs. IsTaken cs name key read) a → IsClosed (λ owner cs. IsReadAndTaken cs name key reads) a
-closed_read name key reads read a given (inl reopen) = inl reopen
-closed_read name key reads read a given (inr (inl memory)) = inr (inl memory)
-closed_read name key reads read a (inl is) (inr (inr each)) = inr (inr (λ owner cs. (read, is, each owner cs)))
-closed_read name key reads read a (inr no_memory) (inr (inr each)) =
-    let taken : IsTaken [] name key (Err (refused.Unavailable outage.NoMemory)) a [] = subst (λ r. IsTaken [] name key r a []) no_memory (each [] []) in
-    inr (inl taken.0)
+pub closed_read : (name key : List ℕ) (reads : Result Command Refused → Type 0) (read : Result (Result Command Refused) AllocError) (a : Answer)
+    → IfOk read reads → IsClosed (λ owner cs. IsTakenIfRead cs name key read) a → IsClosed (λ owner cs. IsReadAndTaken cs name key reads) a
+closed_read name key reads read a is (inl reopen) = inl reopen
+closed_read name key reads read a is (inr (inl memory)) = inr (inl memory)
+closed_read name key reads (Ok body) a is (inr (inr each)) = inr (inr (λ owner cs. (body, is, each owner cs)))
+closed_read name key reads (Err e) a is (inr (inr each)) = let taken = each [] [] in inr (inl taken.0)
 
 -- the two requests are the same
 pub closed_as : {A : Type 0} → (due : A → List ℕ → History → Answer → History → Type 0) (x y : A) (a : Answer)
     → x ≡ y → IsClosed (due y) a → IsClosed (due x) a
 closed_as due x y a e h = subst (λ z. IsClosed (due z) a) (sym e) h
 
-same_fault : (r : Result Facts Refused) (x y : Refused) → r ≡ Err x → r ≡ Err y → x ≡ y
-same_fault r x y e f = cc
-
 -- an image that has no facts is refused so, whatever the history is
-pub closed_image : (image : List ℕ) (read : Result Facts Refused) (x : Refused) → read ≡ Err x → Gives (ReadsFacts image) read
+pub closed_image : (image : List ℕ) (read : Result (Result Facts Refused) AllocError) (x : Refused) → read ≡ Ok (Err x) → IfOk read (ReadsFacts image)
     → IsClosed (λ owner cs. IsRead cs (Judges cs image)) (answer.Refused x)
-closed_image image read x e (inl reads) =
-    let refuses : RefusesImage image x = subst (λ r. ReadsFacts image r) e reads in
+closed_image image read x e reads =
+    let refuses : RefusesImage image x = subst (λ r. IfOk r (ReadsFacts image)) e reads in
     inr (inr (λ owner cs. (inr (x, refuses, refl), refl)))
-closed_image image read x e (inr memory) = inr (inl (ap answer.Refused (same_fault read x (refused.Unavailable outage.NoMemory) e memory)))
-
-told_reopen : (r : Refusal) (x : Refused) → refused_of r ≡ Some x → r ≡ refusals.Reopen → x ≡ refused.Unavailable outage.Reopen
-told_reopen r x is e = let h : Some (refused.Unavailable outage.Reopen) ≡ Some x = subst (λ y. refused_of y ≡ Some x) e is in cc
 
 -- what is shown, whatever the history is
 pub shut_shown : (p : Person) (reading : Reading) (shown : Shown (List ShownRequest)) → IsShut p reading (Ok shown)
@@ -137,8 +138,7 @@ shut_shown p reading shown (inl reopened) = absurd cc
 shut_shown p reading shown (inr each) = inr (inr (λ owner cs. ((Ok shown, each owner cs, refl), refl)))
 
 -- or why nothing is shown
-pub shut_refusal : (p : Person) (reading : Reading) (r : Refusal) (x : Refused) → refused_of r ≡ Some x → IsShut p reading (Err r)
-    → IsClosed (λ owner cs. IsRead cs (ShowsAsked owner cs p reading)) (answer.Refused x)
-shut_refusal p reading r x is (inl reopened) = let same : r ≡ refusals.Reopen = cc in inl (ap answer.Refused (told_reopen r x is same))
-shut_refusal p reading r x is (inr each) =
-    inr (inr (λ owner cs. ((Err r, each owner cs, record { refused = x; told = placeless r x is; is = refl }), refl)))
+pub shut_refusal : (p : Person) (reading : Reading) (r : Refusal) (a : Answer) → IsRefusal r a → IsShut p reading (Err r)
+    → IsClosed (λ owner cs. IsRead cs (ShowsAsked owner cs p reading)) a
+shut_refusal p reading r a is (inl reopened) = let same : r ≡ refusals.Reopen = cc in inl (told_as outage.Reopen r a is same)
+shut_refusal p reading r a is (inr each) = inr (inr (λ owner cs. ((Err r, each owner cs, is), refl)))

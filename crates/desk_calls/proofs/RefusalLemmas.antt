@@ -1,6 +1,6 @@
 -- Refusals of the desk that have an answer, none of which has a place.
 use denote.Enum.Bare.{same_false, same_true, sameb}
-use Rattle.std.proofs.Common.{◌≡◌, ◌≢◌, ◌⊎◌, inl, inr, Bool, Some, None, IsSome, IsTrue, true, false, refl, sym, ap, subst}
+use Rattle.std.proofs.Common.{◌≡◌, ◌≢◌, ◌⊎◌, ◌∙◌, inl, inr, Bool, Option, Some, None, IsTrue, true, false, refl, sym, ap}
 use Rattle.desk_bytes.specs.contracts.refusal.Refusal.{the_type}
 use Rattle.desk_bytes.specs.declared.refusal.Refusal.{Refusal}
 use Rattle.desk_bytes.specs.declared.refusal.Refusal.TheVariants as refusals
@@ -8,12 +8,16 @@ use Rattle.desk_history.specs.DecisionRefusals.{may_answer}
 use Rattle.desk_exports.specs.Readings.{hides_impact, hides_proposal, hides_request, lacks_role, may_refuse, turns_away}
 use Rattle.desk_exports.specs.declared.reading.Reading.{Reading}
 use Rattle.desk_exports.specs.declared.reading.Reading.TheVariants as read
-use Rattle.http_responses.specs.Refusals.{place_of, refused_of, refusal_of}
+use Rattle.http_responses.specs.Refusals.{outage_refusal, place_of, refused_of, refusal_of}
+use Rattle.http_responses.specs.declared.outage.Outage.{Outage}
 use Rattle.http_responses.specs.declared.outage.Outage.TheVariants as outage
 use Rattle.http_responses.specs.declared.refused.Refused.{Refused}
 use Rattle.http_responses.specs.declared.refused.Refused.TheVariants as refused
+use Rattle.desk_calls.specs.Answers.{IsRefusal}
 use Rattle.desk_calls.specs.Bodies.{RefusesAs}
-use Rattle.desk_calls.specs.Desks.{IsOutage, IsReadingRefusal}
+use Rattle.desk_calls.specs.Desks.{IsOutage, IsReadingRefusal, IsTold}
+use Rattle.desk_calls.specs.declared.answers.Answer.{Answer}
+use Rattle.desk_calls.specs.declared.answers.Answer.TheVariants as answer
 
 -- two refusals are one or differ, by the tags of the enum
 same_or_not : (x y : Refusal) (flag : Bool) → sameb the_type x y ≡ flag → (x ≡ y) ⊎ (x ≢ y)
@@ -34,35 +38,33 @@ not_true : IsTrue false → ⊥
 not_true h = cc
 
 -- each refusal of the desk's rules has an answer
-pub told_by_rules : (r : Refusal) → IsTrue (may_answer r) → IsSome (refused_of r)
-told_by_rules refusals.UnknownCaller h = refl
-told_by_rules refusals.NotYourRole h = refl
-told_by_rules refusals.KeyReused h = refl
-told_by_rules refusals.NoSuchRequest h = refl
-told_by_rules refusals.WrongState h = refl
-told_by_rules refusals.OwnRequest h = refl
-told_by_rules refusals.AlreadyReviewed h = refl
-told_by_rules refusals.DigestDiffers h = refl
-told_by_rules refusals.Revoked h = refl
-told_by_rules refusals.NotListed h = refl
-told_by_rules refusals.AlreadyRevoked h = refl
-told_by_rules refusals.NotHigher h = refl
-told_by_rules refusals.StampNotLater h = refl
-told_by_rules refusals.AlreadyListed h = refl
-told_by_rules refusals.NotThere h = refl
-told_by_rules refusals.NameTaken h = refl
-told_by_rules refusals.Full h = refl
-told_by_rules refusals.NoSuchProposal h = refl
-told_by_rules refusals.OwnProposal h = refl
-told_by_rules refusals.ProposalClosed h = refl
-told_by_rules refusals.NoMemory h = refl
+pub told_by_rules : (r : Refusal) → IsTrue (may_answer r) → IsTold r
+told_by_rules refusals.UnknownCaller h = inl refl
+told_by_rules refusals.NotYourRole h = inl refl
+told_by_rules refusals.KeyReused h = inl refl
+told_by_rules refusals.NoSuchRequest h = inl refl
+told_by_rules refusals.WrongState h = inl refl
+told_by_rules refusals.OwnRequest h = inl refl
+told_by_rules refusals.AlreadyReviewed h = inl refl
+told_by_rules refusals.DigestDiffers h = inl refl
+told_by_rules refusals.Revoked h = inl refl
+told_by_rules refusals.NotListed h = inl refl
+told_by_rules refusals.AlreadyRevoked h = inl refl
+told_by_rules refusals.NotHigher h = inl refl
+told_by_rules refusals.StampNotLater h = inl refl
+told_by_rules refusals.AlreadyListed h = inl refl
+told_by_rules refusals.NotThere h = inl refl
+told_by_rules refusals.NameTaken h = inl refl
+told_by_rules refusals.Full h = inl refl
+told_by_rules refusals.NoSuchProposal h = inl refl
+told_by_rules refusals.OwnProposal h = inl refl
+told_by_rules refusals.ProposalClosed h = inl refl
+told_by_rules refusals.NoMemory h = inr (inl refl)
 told_by_rules _ h = absurd (not_true h)
 
 -- an outage has an answer
-pub told_outage : (r : Refusal) → IsOutage r → IsSome (refused_of r)
-told_outage r (inl e) = subst (λ x. IsSome (refused_of x)) (sym e) refl
-told_outage r (inr (inl e)) = subst (λ x. IsSome (refused_of x)) (sym e) refl
-told_outage r (inr (inr e)) = subst (λ x. IsSome (refused_of x)) (sym e) refl
+pub told_outage : (r : Refusal) → IsOutage r → IsTold r
+told_outage r outage = inr outage
 
 -- what a reading may be refused for is a refusal of the rules
 role_by_rules : (r : Refusal) → IsTrue (lacks_role r) → IsTrue (may_answer r)
@@ -111,7 +113,7 @@ due_by_rules (read.Minutes n) r h = turned_by_rules r h
 due_by_rules read.People r h = turned_by_rules r h
 
 -- so each refusal of a reading has an answer
-pub told_reading : (reading : Reading) (r : Refusal) → IsReadingRefusal reading r → IsSome (refused_of r)
+pub told_reading : (reading : Reading) (r : Refusal) → IsReadingRefusal reading r → IsTold r
 told_reading reading r (inl due) = told_by_rules r (due_by_rules reading r due)
 told_reading reading r (inr e) = told_outage r e
 
@@ -162,10 +164,10 @@ placeless refusals.Full x e = tells_same refused.Full x e
 placeless refusals.NoSuchProposal x e = tells_same refused.NoSuchProposal x e
 placeless refusals.OwnProposal x e = tells_same refused.OwnProposal x e
 placeless refusals.ProposalClosed x e = tells_same refused.ProposalClosed x e
-placeless refusals.NoMemory x e = tells_same (refused.Unavailable outage.NoMemory) x e
-placeless refusals.Store x e = tells_same (refused.Unavailable outage.Store) x e
-placeless refusals.Reopen x e = tells_same (refused.Unavailable outage.Reopen) x e
-placeless refusals.NotADesk x e = tells_same (refused.Unavailable outage.NotADesk) x e
+placeless refusals.NoMemory x e = absurd (not_some x e)
+placeless refusals.Store x e = absurd (not_some x e)
+placeless refusals.Reopen x e = absurd (not_some x e)
+placeless refusals.NotADesk x e = absurd (not_some x e)
 placeless refusals.Version x e = absurd (not_some x e)
 placeless refusals.File x e = absurd (not_some x e)
 placeless refusals.Exists x e = absurd (not_some x e)
@@ -179,3 +181,38 @@ placeless refusals.BadMethod x e = absurd (not_some x e)
 placeless refusals.LengthNeeded x e = tells_same refused.LengthNeeded x e
 placeless refusals.TooLarge x e = tells_same refused.TooLarge x e
 placeless refusals.NotSupported x e = tells_same refused.NotSupported x e
+
+-- ---- outages
+
+-- the outage of a row, if it is one's
+outage_at : Refusal → Option Outage
+outage_at refusals.NoMemory = Some outage.NoMemory
+outage_at refusals.Store = Some outage.Store
+outage_at refusals.Reopen = Some outage.Reopen
+outage_at refusals.NotADesk = Some outage.NotADesk
+outage_at _ = None
+
+some_at : (o : Outage) → outage_at (outage_refusal o) ≡ Some o
+unfolding outage_at
+some_at outage.NoMemory = refl
+some_at outage.Store = refl
+some_at outage.Reopen = refl
+some_at outage.NotADesk = refl
+
+none_at : (x : Refused) → outage_at (refusal_of x) ≡ None
+unfolding outage_at
+none_at refused.Short = refl
+none_at _ = refl
+
+-- the answer that an outage's row is says that outage
+pub outage_told : (o : Outage) (a : Answer) → IsRefusal (outage_refusal o) a → a ≡ answer.Unavailable o
+outage_told o (answer.Reply reply) told = absurd told
+outage_told o (answer.Shown shown) told = absurd told
+outage_told o (answer.Verdict verdict facts) told = absurd told
+outage_told o (answer.Facts facts) told = absurd told
+outage_told o (answer.Me person) told = absurd told
+outage_told o (answer.Refused x) told =
+    let bad : None ≡ Some o = sym (none_at x) ∙ (ap outage_at told.of ∙ some_at o) in absurd (let no : ⊥ = cc in no)
+outage_told o (answer.Unavailable p) told =
+    let both : Some p ≡ Some o = sym (some_at p) ∙ (ap outage_at told ∙ some_at o) in
+    let same : p ≡ o = cc in ap answer.Unavailable same

@@ -1,5 +1,6 @@
 -- The answer of a desk that shows a history to a call, and the history after it.
-use Rattle.std.specs.Prelude.{◌≡◌, ◌⊎◌, ℕ, List, None, Result, Ok, Err}
+use Rattle.std.specs.Prelude.{◌≡◌, ◌⊎◌, ⊤, ℕ, List, None, Result, Ok, Err}
+use Rattle.std.specs.declared.alloc.AllocError.{AllocError}
 use Rattle.desk_bytes.specs.declared.refusal.Refusal.{Refusal}
 use Rattle.desk_texts.specs.declared.caller.Caller.TheVariants as callers
 use Rattle.desk_texts.specs.declared.command.Call.{Call as Ruled}
@@ -9,6 +10,7 @@ use Rattle.desk_texts.specs.declared.command.Person.{Person}
 use Rattle.desk_texts.specs.declared.facts.Facts.{Facts}
 use Rattle.desk_texts.specs.declared.shown.ShownRequest.{ShownRequest}
 use Rattle.desk_history.specs.Calls.{History}
+use Rattle.desk_history.specs.PeopleShown.{shown_person}
 use Rattle.desk_history.specs.Runs as runs
 use Rattle.desk_history.specs.Verdicts.{verdict}
 use Rattle.desk_history.specs.declared.answer.Answer as ruling
@@ -18,9 +20,9 @@ use Rattle.desk_exports.specs.declared.reading.Reading.{Reading}
 use Rattle.desk_exports.specs.declared.shown.Shown.{Shown}
 use Rattle.http_requests.specs.declared.ask.ImageAsked.{ImageAsked}
 use Rattle.http_requests.specs.declared.ask.ImageAsked.TheVariants as asked
+use Rattle.http_responses.specs.Refusals.{outage_refusal}
 use Rattle.http_responses.specs.declared.outage.Outage.TheVariants as outage
 use Rattle.http_responses.specs.declared.refused.Refused.{Refused}
-use Rattle.http_responses.specs.declared.refused.Refused.TheVariants as refused
 use Rattle.desk_service.specs.ImageFacts.{IsFactsOf}
 use Rattle.desk_calls.specs.Bodies.{ReadsBytes, ReadsImage, RefusesImage, RefusesAs}
 use Rattle.desk_calls.specs.Desks.{is_text_of}
@@ -31,11 +33,29 @@ use Rattle.desk_calls.specs.declared.call.Call.{Call}
 use Rattle.desk_calls.specs.declared.call.Task.{Task}
 use Rattle.desk_calls.specs.declared.call.Task.TheVariants as task
 
--- a refusal by the desk, which has no place
-pub record IsRefusal (row : Refusal) (a : Answer) : Type 0 where
-  pub refused : Refused
-  pub told : RefusesAs row None refused
-  pub is : a ≡ answer.Refused refused
+-- a refusal by the desk, which has no place, or an outage
+abbrev pub IsRefusal : Refusal → Answer → Type 0
+IsRefusal row (answer.Refused refused) = RefusesAs row None refused
+IsRefusal row (answer.Unavailable outage) = outage_refusal outage ≡ row
+IsRefusal row _ = ⊥
+
+-- the answer gives nothing: the request is refused, or the desk can't answer
+abbrev pub GivesNothing : Answer → Type 0
+GivesNothing (answer.Refused refused) = ⊤
+GivesNothing (answer.Unavailable outage) = ⊤
+GivesNothing _ = ⊥
+
+-- memory was refused
+abbrev pub no_memory : Answer
+no_memory = answer.Unavailable outage.NoMemory
+
+-- the store failed
+abbrev pub store_failed : Answer
+store_failed = answer.Unavailable outage.Store
+
+-- the desk has to be opened again
+abbrev pub reopened : Answer
+reopened = answer.Unavailable outage.Reopen
 
 -- ---- commands
 
@@ -54,6 +74,11 @@ abbrev pub IsTaken : History → List ℕ → List ℕ → Result Command Refuse
 IsTaken cs name key (Err refused) a later = (a ≡ answer.Refused refused) × (later ≡ cs)
 IsTaken cs name key (Ok command) a later =
     IsRuled (runs.answer cs (call_of name key command)) a × (later ≡ runs.next cs (call_of name key command))
+
+-- the same, or that memory for the body was refused
+abbrev pub IsTakenIfRead : History → List ℕ → List ℕ → Result (Result Command Refused) AllocError → Answer → History → Type 0
+IsTakenIfRead cs name key (Err _) a later = (a ≡ no_memory) × (later ≡ cs)
+IsTakenIfRead cs name key (Ok read) a later = IsTaken cs name key read a later
 
 -- the same for a body that is read in this way
 abbrev pub IsReadAndTaken : History → List ℕ → List ℕ → (Result Command Refused → Type 0) → Answer → History → Type 0
@@ -81,6 +106,16 @@ Judges cs image a =
     ((x : Facts) × IsFactsOf image x × (a ≡ answer.Verdict (verdict cs x) x))
     ⊎ ((refused : Refused) × RefusesImage image refused × (a ≡ answer.Refused refused))
 
+-- the facts of the image, or its refusal. own: they need neither role nor key
+abbrev pub TellsFacts : List ℕ → Answer → Type 0
+TellsFacts image a =
+    ((x : Facts) × IsFactsOf image x × (a ≡ answer.Facts x))
+    ⊎ ((refused : Refused) × RefusesImage image refused × (a ≡ answer.Refused refused))
+
+-- the name and the role of the person
+abbrev pub IsPerson : Person → Answer → Type 0
+IsPerson p a = a ≡ answer.Me (shown_person p)
+
 -- ---- every task
 
 -- The desk that shows the history gives this answer to a request with an image by the person of
@@ -91,11 +126,13 @@ AnswersImage cs name (asked.Submit key title) image =
 AnswersImage cs name (asked.Return key number) image =
     IsReadAndTaken cs name key (ReadsImage (λ x. command.Return (record { request = number; facts = x })) image)
 AnswersImage cs name asked.Verdict image = IsRead cs (Judges cs image)
+AnswersImage cs name asked.Facts image = IsRead cs (TellsFacts image)
 
 -- The desk that shows the history gives this answer to a person's task, and then shows `later`. A
 -- read changes nothing.
 abbrev pub AnswersTask : List ℕ → History → Person → Task → Answer → History → Type 0
 AnswersTask owner cs p (task.Read reading) = IsRead cs (ShowsAsked owner cs p reading)
+AnswersTask owner cs p task.Me = IsRead cs (IsPerson p)
 AnswersTask owner cs p (task.Image with image) = AnswersImage cs p.name with image
 AnswersTask owner cs p (task.Command key command) = IsTaken cs p.name key (Ok command)
 AnswersTask owner cs p (task.Bytes key format bytes) = IsReadAndTaken cs p.name key (ReadsBytes format bytes)
@@ -105,18 +142,6 @@ abbrev pub AnswersCall : List ℕ → History → Call → Answer → History �
 AnswersCall owner cs call = AnswersTask owner cs call.person call.task
 
 -- ---- failures
-
--- memory was refused
-abbrev pub no_memory : Answer
-no_memory = answer.Refused (refused.Unavailable outage.NoMemory)
-
--- the store failed
-abbrev pub store_failed : Answer
-store_failed = answer.Refused (refused.Unavailable outage.Store)
-
--- the desk has to be opened again
-abbrev pub reopened : Answer
-reopened = answer.Refused (refused.Unavailable outage.Reopen)
 
 -- The answer is one that is due, and the desk shows the history after it; or memory was refused,
 -- and it shows the one before; or the store failed, and so has the desk.

@@ -1,15 +1,14 @@
 -- The commands that bodies are read as, and the refusals of bodies.
-use Rattle.std.specs.Prelude.{◌≡◌, ◌≢◌, ◌⊎◌, ℕ, List, length, nat_lt, if◌then◌else◌, Option, Some, None, Result, Ok, Err}
+use Rattle.std.specs.Prelude.{◌≡◌, ℕ, List, length, nat_lt, if◌then◌else◌, Option, Some, None, Result, Ok, Err, ⊤}
+use Rattle.std.specs.declared.alloc.AllocError.{AllocError}
 use Rattle.sha2.specs.Sha256.{sha256}
 use Rattle.desk_bytes.specs.declared.refusal.Refusal.{Refusal}
-use Rattle.desk_bytes.specs.declared.refusal.Refusal.TheVariants as refusals
 use Rattle.desk_texts.specs.declared.command.Command.{Command}
 use Rattle.desk_texts.specs.declared.command.Command.TheVariants as command
 use Rattle.desk_texts.specs.declared.facts.Facts.{Facts}
 use Rattle.http_requests.specs.declared.ask.BytesAsked.{BytesAsked}
 use Rattle.http_requests.specs.declared.ask.BytesAsked.TheVariants as asked
 use Rattle.http_responses.specs.Refusals as told
-use Rattle.http_responses.specs.declared.outage.Outage.TheVariants as outage
 use Rattle.http_responses.specs.declared.refused.Refused.{Refused}
 use Rattle.http_responses.specs.declared.refused.Refused.TheVariants as refused
 use Rattle.desk_service.specs.Faults as facts
@@ -25,12 +24,11 @@ pub record RefusesAs (row : Refusal) (place : Option ℕ) (refused : Refused) : 
   pub of : told.refusal_of refused ≡ row
   pub at : told.place_of refused ≡ place
 
--- a body is refused for its first fault; NoMemory isn't a fault of the body
+-- a body is refused for its first fault; NoMemory isn't a fault of the body, and refuses none
 pub record TellsFault {F : Type 0} (is_first : F → Type 0) (row : F → Refusal) (place : F → Option ℕ) (refused : Refused) : Type 0 where
   pub fault : F
   pub first : is_first fault
   pub told : RefusesAs (row fault) (place fault) refused
-  pub own : row fault ≢ refusals.NoMemory
 
 -- an image in memory, no read of which fails, is refused for this
 abbrev pub RefusesImage : List ℕ → Refused → Type 0
@@ -60,6 +58,13 @@ abbrev pub ReadsImport : (Command → Type 0) → (ImportFault → Type 0) → R
 ReadsImport is first (Ok command) = is command
 ReadsImport is first (Err refused) = TellsFault first imports.refusal_of imports.place_of refused
 
+-- the result for an import: its command, or a refusal for its fault, or memory was refused
+abbrev pub TellsImport : Result Command ImportFault → Result (Result Command Refused) AllocError → Type 0
+TellsImport given (Ok (Ok command)) = given ≡ Ok command
+TellsImport given (Ok (Err refused)) =
+    (fault : ImportFault) × (given ≡ Err fault) × RefusesAs (imports.refusal_of fault) (imports.place_of fault) refused
+TellsImport given (Err _) = ⊤
+
 -- signature lists
 abbrev pub ReadsDbx : List ℕ → Result Command Refused → Type 0
 ReadsDbx bytes = ReadsImport (IsDbxImport bytes) (RefusesDbx bytes)
@@ -78,7 +83,3 @@ ReadsBytes asked.ListCertificate body read = read ≡ listing_of body
 ReadsBytes asked.ImportDbx body read = ReadsDbx body read
 ReadsBytes (asked.ImportCsv stamp) body read = ReadsCsv body stamp read
 ReadsBytes asked.ImportLevel body read = ReadsLevel body read
-
--- the code returns this, or that memory was refused
-abbrev pub Gives : {A : Type 0} → (Result A Refused → Type 0) → Result A Refused → Type 0
-Gives reads read = reads read ⊎ (read ≡ Err (refused.Unavailable outage.NoMemory))

@@ -1,5 +1,5 @@
 -- The histories that a desk shows, and refusals, for any kind of desk.
-use Rattle.std.specs.Prelude.{◌≡◌, ◌≢◌, ◌⊎◌, ℕ, List, Option, Result, Err, IfErr, IsErrOf, IsTrue, find}
+use Rattle.std.specs.Prelude.{◌≡◌, ◌≢◌, ◌⊎◌, ℕ, List, Option, Result, Err, IfErr, IsErrOf, IsSome, IsTrue, find}
 use Rattle.desk_bytes.specs.declared.refusal.Refusal.{Refusal}
 use Rattle.desk_bytes.specs.declared.refusal.Refusal.TheVariants as refusals
 use Rattle.desk_texts.specs.declared.command.Person.{Person}
@@ -9,6 +9,7 @@ use Rattle.desk_history.specs.People.{has_token, people}
 use Rattle.desk_exports.specs.Readings.{IsShownTo, may_refuse}
 use Rattle.desk_exports.specs.declared.reading.Reading.{Reading}
 use Rattle.desk_exports.specs.declared.shown.Shown.{Shown}
+use Rattle.http_responses.specs.Refusals.{refused_of}
 
 -- this holds of each owner and history that a desk shows
 abbrev pub ForEachShown : (List ℕ → History → Type 0) → (List ℕ → History → Type 0) → Type 0
@@ -25,6 +26,10 @@ person_with token cs = find (has_token token) (people cs)
 -- own: the desk can't answer
 abbrev pub IsOutage : Refusal → Type 0
 IsOutage refusal = (refusal ≡ refusals.NoMemory) ⊎ ((refusal ≡ refusals.Store) ⊎ (refusal ≡ refusals.Reopen))
+
+-- a desk's refusal has an answer: a request is refused for it, or the desk can't answer
+abbrev pub IsTold : Refusal → Type 0
+IsTold refusal = IsSome (refused_of refusal) ⊎ IsOutage refusal
 
 -- a list of requests is these
 abbrev pub is_text_of : List ShownRequest → List ShownRequest → Type 0

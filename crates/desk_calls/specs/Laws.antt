@@ -5,10 +5,8 @@ use Rattle.desk_texts.specs.declared.role.Role.TheVariants as roles
 use Rattle.desk_history.specs.Calls.{History}
 use Rattle.desk_history.specs.Shown.{own, role_of}
 use Rattle.desk_exports.specs.declared.reading.Reading.TheVariants as read
-use Rattle.http_responses.specs.declared.refused.Refused.{Refused}
-use Rattle.desk_calls.specs.Answers.{AnswersCall, AnswersTask}
+use Rattle.desk_calls.specs.Answers.{AnswersCall, AnswersTask, GivesNothing}
 use Rattle.desk_calls.specs.declared.answers.Answer.{Answer}
-use Rattle.desk_calls.specs.declared.answers.Answer.TheVariants as answer
 use Rattle.desk_calls.specs.declared.call.Call.{Call}
 use Rattle.desk_calls.specs.declared.call.Task.TheVariants as task
 
@@ -16,8 +14,8 @@ use Rattle.desk_calls.specs.declared.call.Task.TheVariants as task
 -- reason
 abbrev pub RefusalsChangeNothing : Type 0
 RefusalsChangeNothing =
-    (owner : List ℕ) (cs : History) (call : Call) (refused : Refused) (later : History)
-    → AnswersCall owner cs call (answer.Refused refused) later → later ≡ cs
+    (owner : List ℕ) (cs : History) (call : Call) (a : Answer) (later : History)
+    → GivesNothing a → AnswersCall owner cs call a later → later ≡ cs
 
 -- desks of these two histories answer the person's reads of requests alike, whatever else the
 -- histories hold

@@ -1,8 +1,8 @@
 //! Answers to calls.
 use desk_exports::Shown;
-use desk_history::Verdict;
+use desk_history::{ShownPerson, Verdict};
 use desk_texts::{Facts, Reply};
-use http_responses::{Refused, RequestsText};
+use http_responses::{Outage, Refused, RequestsText};
 
 /// What the desk answers to a call.
 #[derive(Drop)]
@@ -13,6 +13,12 @@ pub enum Answer {
     Shown(Shown<RequestsText>),
     /// On the image of these facts.
     Verdict(Verdict, Facts),
+    /// Of an image.
+    Facts(Facts),
+    /// The person who asks.
+    Me(ShownPerson),
     /// With the place that the refusal tells, if it tells one.
     Refused(Refused),
+    /// The desk can't answer.
+    Unavailable(Outage),
 }

@@ -1,44 +1,47 @@
-//! The reading of calls' bodies.
-ghost use Rattle.std.specs.Prelude.{◌≡◌, ◌≢◌, Err};
+//! The reading of calls' bodies: what they say, or why they are refused.
+ghost use Rattle.std.specs.Prelude.{◌≡◌, IfOk};
 ghost use Rattle.desk_texts.specs.declared.command.Command.TheVariants as command;
 ghost use Rattle.desk_calls.specs.Bodies as spec;
 
 use crate::refusing::{of_facts, of_import};
 use desk_bytes::tbs;
 use desk_exports::Octets;
-use desk_service::{facts, import_csv, import_dbx, import_level, tbs_is_read, token_digest};
+use desk_service::{
+    ImportFault, facts, import_csv, import_dbx, import_level, tbs_is_read, token_digest,
+};
 use desk_texts::{
     Certificate, Command, Facts, LONGEST_CERTIFICATE, RequestNumber, ReturnedFile, Submission,
     Title,
 };
 use http_requests::BytesAsked;
-use http_responses::{Outage, Refused};
+use http_responses::Refused;
 use pe_image::{Pieces, no_slice_fails};
-use sbat::Stamp;
-use std::alloc::Global;
+use std::alloc::{AllocError, Global};
 
 /// The facts of an image.
-pub(crate) fn read_facts(alloc: Global, image: Pieces) -> Result<Facts, Refused>
-    ensures reads { spec.Gives (spec.ReadsFacts image) result }
-    ensures no_store { result ≢ Err (Refused.Unavailable Outage.Store) }
+pub(crate) fn read_facts(alloc: Global, image: Pieces) -> Result<Result<Facts, Refused>, AllocError>
+    ensures reads { IfOk result (spec.ReadsFacts image) }
 {
     no_slice_fails();
     let mut source = image;
     match facts(alloc, &mut source) {
-        Ok(found) => Ok(found),
-        Err(fault) => Err(of_facts(fault)),
+        Ok(found) => Ok(Ok(found)),
+        Err(fault) => Ok(Err(of_facts(fault)?)),
     }
 }
 
 /// The command that requests a signature of the image, with this title.
-pub(crate) fn submission(alloc: Global, title: Title, image: Pieces) -> Result<Command, Refused>
-    ensures reads { spec.Gives (spec.ReadsImage
-        (λ x. command.Submit (record { title = title; facts = x })) image) result }
-    ensures no_store { result ≢ Err (Refused.Unavailable Outage.Store) }
+pub(crate) fn submission(
+    alloc: Global,
+    title: Title,
+    image: Pieces,
+) -> Result<Result<Command, Refused>, AllocError>
+    ensures reads { IfOk result (spec.ReadsImage
+        (λ x. command.Submit (record { title = title; facts = x })) image) }
 {
-    match read_facts(alloc, image) {
-        Ok(facts) => Ok(Command::Submit(Submission { title, facts })),
-        Err(refused) => Err(refused),
+    match read_facts(alloc, image)? {
+        Ok(facts) => Ok(Ok(Command::Submit(Submission { title, facts }))),
+        Err(refused) => Ok(Err(refused)),
     }
 }
 
@@ -47,21 +50,19 @@ pub(crate) fn returned_file(
     alloc: Global,
     request: RequestNumber,
     image: Pieces,
-) -> Result<Command, Refused>
-    ensures reads { spec.Gives (spec.ReadsImage
-        (λ x. command.Return (record { request = request; facts = x })) image) result }
-    ensures no_store { result ≢ Err (Refused.Unavailable Outage.Store) }
+) -> Result<Result<Command, Refused>, AllocError>
+    ensures reads { IfOk result (spec.ReadsImage
+        (λ x. command.Return (record { request = request; facts = x })) image) }
 {
-    match read_facts(alloc, image) {
-        Ok(facts) => Ok(Command::Return(ReturnedFile { request, facts })),
-        Err(refused) => Err(refused),
+    match read_facts(alloc, image)? {
+        Ok(facts) => Ok(Ok(Command::Return(ReturnedFile { request, facts }))),
+        Err(refused) => Ok(Err(refused)),
     }
 }
 
 /// The command that lists a certificate.
 fn listing(body: Octets) -> Result<Command, Refused>
     ensures reads { result ≡ spec.listing_of body }
-    ensures no_store { result ≢ Err (Refused.Unavailable Outage.Store) }
 {
     tbs_is_read();
     let bytes = body.into_vec();
@@ -76,48 +77,28 @@ fn listing(body: Octets) -> Result<Command, Refused>
     }
 }
 
-/// The command of signature lists.
-fn from_dbx(alloc: Global, body: &Octets) -> Result<Command, Refused>
-    ensures reads { spec.Gives (spec.ReadsDbx body.now) result }
-    ensures no_store { result ≢ Err (Refused.Unavailable Outage.Store) }
+/// The command of an import, or the refusal for its fault.
+fn imported(given: Result<Command, ImportFault>) -> Result<Result<Command, Refused>, AllocError>
+    ensures reads { spec.TellsImport given result }
 {
-    match import_dbx(alloc, body.as_slice()) {
-        Ok(command) => Ok(command),
-        Err(fault) => Err(of_import(fault)),
-    }
-}
-
-/// The command of a CSV file.
-fn from_csv(alloc: Global, body: &Octets, stamp: Option<Stamp>) -> Result<Command, Refused>
-    ensures reads { spec.Gives (spec.ReadsCsv body.now stamp) result }
-    ensures no_store { result ≢ Err (Refused.Unavailable Outage.Store) }
-{
-    match import_csv(alloc, body.as_slice(), stamp) {
-        Ok(command) => Ok(command),
-        Err(fault) => Err(of_import(fault)),
-    }
-}
-
-/// The command of the text of an SBAT level.
-fn from_level(alloc: Global, body: &Octets) -> Result<Command, Refused>
-    ensures reads { spec.Gives (spec.ReadsLevel body.now) result }
-    ensures no_store { result ≢ Err (Refused.Unavailable Outage.Store) }
-{
-    match import_level(alloc, body.as_slice()) {
-        Ok(command) => Ok(command),
-        Err(fault) => Err(of_import(fault)),
+    match given {
+        Ok(command) => Ok(Ok(command)),
+        Err(fault) => Ok(Err(of_import(fault)?)),
     }
 }
 
 /// The command of the bytes, in the requested format.
-pub(crate) fn command_of(alloc: Global, asked: BytesAsked, body: Octets) -> Result<Command, Refused>
-    ensures reads { spec.Gives (spec.ReadsBytes asked body) result }
-    ensures no_store { result ≢ Err (Refused.Unavailable Outage.Store) }
+pub(crate) fn command_of(
+    alloc: Global,
+    asked: BytesAsked,
+    body: Octets,
+) -> Result<Result<Command, Refused>, AllocError>
+    ensures reads { IfOk result (spec.ReadsBytes asked body) }
 {
     match asked {
-        BytesAsked::ListCertificate => listing(body),
-        BytesAsked::ImportDbx => from_dbx(alloc, &body),
-        BytesAsked::ImportCsv(stamp) => from_csv(alloc, &body, stamp),
-        BytesAsked::ImportLevel => from_level(alloc, &body),
+        BytesAsked::ListCertificate => Ok(listing(body)),
+        BytesAsked::ImportDbx => imported(import_dbx(alloc, body.as_slice())),
+        BytesAsked::ImportCsv(stamp) => imported(import_csv(alloc, body.as_slice(), stamp)),
+        BytesAsked::ImportLevel => imported(import_level(alloc, body.as_slice())),
     }
 }

@@ -16,6 +16,8 @@ pub struct Call {
 pub enum Task {
     /// Reads this.
     Read(Reading),
+    /// Asks for the person's own name and role.
+    Me,
     /// The request, with its image.
     Image(ImageAsked, Pieces),
     /// A command whose parts are all known.

@@ -1,16 +1,18 @@
 //! Calls that read a desk.
-ghost use Rattle.std.specs.Prelude.{◌≡◌, ℕ, List};
+ghost use Rattle.std.specs.Prelude.{◌≡◌, ◌≢◌, ◌⊎◌, ℕ, List};
 ghost use Rattle.desk_history.specs.Calls.{History};
 ghost use Rattle.desk_calls.specs.Answers as spec;
 
 use crate::answering::Answering;
 use crate::answers::Answer;
 use crate::bodies::read_facts;
-use crate::refusing::without_place;
+use crate::refusing::{outage, refuse};
 use desk_exports::Reading;
+use desk_history::ShownPerson;
 use desk_texts::Person;
+use http_responses::Outage;
 use pe_image::Pieces;
-use std::alloc::Global;
+use std::alloc::{AllocError, Global};
 
 /// The desk's verdict on the image.
 pub(crate) fn judge<D: Answering>(alloc: Global, desk: &mut D, image: Pieces) -> Answer
@@ -24,13 +26,34 @@ pub(crate) fn judge<D: Answering>(alloc: Global, desk: &mut D, image: Pieces) ->
         (spec.Judges cs image)) result × (desk.new ≡ desk.old) }
 {
     let found = match read_facts(alloc, image) {
-        Ok(found) => found,
-        Err(refused) => return Answer::Refused(refused),
+        Ok(Ok(found)) => found,
+        Ok(Err(refused)) => return Answer::Refused(refused),
+        Err(AllocError) => return Answer::Unavailable(Outage::NoMemory),
     };
     match desk.verdict(&found) {
         Ok(said) => Answer::Verdict(said, found),
-        Err(refusal) => Answer::Refused(without_place(refusal)),
+        Err(refusal) => Answer::Unavailable(outage(refusal)),
     }
+}
+
+/// The facts of the image, whatever the desk holds.
+pub(crate) fn tell(alloc: Global, image: Pieces) -> Answer
+    ensures told { spec.TellsFacts image result ⊎ (result ≡ spec.no_memory) }
+    ensures no_store { result ≢ spec.store_failed }
+{
+    match read_facts(alloc, image) {
+        Ok(Ok(found)) => Answer::Facts(found),
+        Ok(Err(refused)) => Answer::Refused(refused),
+        Err(AllocError) => Answer::Unavailable(Outage::NoMemory),
+    }
+}
+
+/// The person, without the token.
+pub(crate) fn introduce(person: Person) -> Answer
+    ensures { spec.IsPerson person result }
+{
+    let Person { name, role, .. } = person;
+    Answer::Me(ShownPerson { name, role })
 }
 
 /// The answer to a person's read.
@@ -46,6 +69,6 @@ pub(crate) fn show<D: Answering>(desk: &mut D, person: Person, reading: Reading)
 {
     match desk.read(person, reading) {
         Ok(shown) => Answer::Shown(shown),
-        Err(refusal) => Answer::Refused(without_place(refusal)),
+        Err(refusal) => refuse(refusal),
     }
 }

@@ -1,15 +1,17 @@
-//! Faults of bodies and refusals of a desk, as refusals of a request.
-ghost use Rattle.std.specs.Prelude.{◌≡◌, ◌≢◌, ◌⊎◌, IsSome, None, Some};
+//! Faults of bodies as refusals of a request, and refusals of a desk as answers.
+ghost use Rattle.std.specs.Prelude.{◌≡◌, ◌≢◌, IfOk, None, Some};
 ghost use Rattle.authenticode.specs.Faults as carried;
 ghost use Rattle.pe_image.specs.Faults as layout;
 ghost use Rattle.sbat.specs.Refusals as sbat_faults;
 ghost use Rattle.siglist.specs.ListsFaults as lists;
 ghost use Rattle.desk_service.specs.imports.Faults as imports;
 ghost use Rattle.desk_service.specs.Faults as facts;
-ghost use Rattle.http_responses.specs.Refusals.{outage_refusal, refused_of};
+ghost use Rattle.http_responses.specs.Refusals.{outage_refusal};
+ghost use Rattle.desk_calls.specs.Answers.{IsRefusal};
 ghost use Rattle.desk_calls.specs.Bodies.{RefusesAs};
-ghost use Rattle.desk_calls.specs.Desks.{IsOutage};
+ghost use Rattle.desk_calls.specs.Desks.{IsOutage, IsTold};
 
+use crate::answers::Answer;
 use authenticode::CarriedFault;
 use desk_bytes::Refusal;
 use desk_service::{FactsFault, ImportFault};
@@ -17,23 +19,7 @@ use http_responses::{Outage, Refused};
 use pe_image::LayoutFault;
 use sbat::SbatFault;
 use siglist::ListsFault;
-
-/// Memory was refused.
-pub(crate) const NO_MEMORY: Refused = Refused::Unavailable(Outage::NoMemory);
-
-/// A refusal without a place.
-pub(crate) fn without_place(refusal: Refusal) -> Refused
-    requires { IsSome (refused_of refusal) }
-    ensures value { refused_of refusal ≡ Some result }
-    ensures tells { RefusesAs refusal None result }
-    ensures store { result ≡ Refused.Unavailable Outage.Store → refusal ≡ Refusal.Store }
-    ensures reopen { refusal ≡ Refusal.Reopen → result ≡ Refused.Unavailable Outage.Reopen }
-{
-    match Refused::of(refusal) {
-        Some(refused) => refused,
-        None => unreachable!(),
-    }
-}
+use std::alloc::AllocError;
 
 /// Why the desk can't answer.
 pub(crate) fn outage(refusal: Refusal) -> Outage
@@ -51,11 +37,21 @@ pub(crate) fn outage(refusal: Refusal) -> Outage
     Outage::Reopen
 }
 
+/// The answer that a desk's refusal is.
+pub(crate) fn refuse(refusal: Refusal) -> Answer
+    requires { IsTold refusal }
+    ensures { IsRefusal refusal result }
+{
+    match Refused::of(refusal) {
+        Some(refused) => Answer::Refused(refused),
+        None => Answer::Unavailable(outage(refusal)),
+    }
+}
+
 /// The refusal of an image without a layout, all of whose reads succeeded.
 fn of_layout(fault: LayoutFault) -> Refused
     requires { layout.refusal_of fault ≢ Refusal.Read }
     ensures tells { RefusesAs (layout.refusal_of fault) None result }
-    ensures no_store { result ≢ Refused.Unavailable Outage.Store }
 {
     match fault {
         LayoutFault::Short => Refused::Short,
@@ -73,35 +69,33 @@ fn of_layout(fault: LayoutFault) -> Refused
     }
 }
 
-/// The refusal for an image's certificates.
-fn of_carried(fault: CarriedFault) -> Refused
-    ensures tells { RefusesAs (carried.refusal_of fault) None result }
-    ensures no_store { result ≢ Refused.Unavailable Outage.Store }
+/// The refusal for an image's certificates, unless memory was refused.
+fn of_carried(fault: CarriedFault) -> Result<Refused, AllocError>
+    ensures tells { IfOk result (RefusesAs (carried.refusal_of fault) None) }
 {
     match fault {
-        CarriedFault::Table => Refused::Table,
-        CarriedFault::Der => Refused::Der,
-        CarriedFault::TooLong => Refused::TooLong,
-        CarriedFault::NoMemory => NO_MEMORY,
+        CarriedFault::Table => Ok(Refused::Table),
+        CarriedFault::Der => Ok(Refused::Der),
+        CarriedFault::TooLong => Ok(Refused::TooLong),
+        CarriedFault::NoMemory => Err(AllocError),
     }
 }
 
-/// The refusal for SBAT text, with the number of its line.
-fn of_sbat(fault: SbatFault) -> Refused
-    ensures tells { RefusesAs (sbat_faults.refusal_of fault) (sbat_faults.place_of fault) result }
-    ensures no_store { result ≢ Refused.Unavailable Outage.Store }
+/// The refusal for SBAT text, with the number of its line, unless memory was refused.
+fn of_sbat(fault: SbatFault) -> Result<Refused, AllocError>
+    ensures tells { IfOk result
+        (RefusesAs (sbat_faults.refusal_of fault) (sbat_faults.place_of fault)) }
 {
     match fault {
-        SbatFault::Row(line) => Refused::SbatRow(line),
-        SbatFault::TooLong => Refused::TooLong,
-        SbatFault::NoMemory => NO_MEMORY,
+        SbatFault::Row(line) => Ok(Refused::SbatRow(line)),
+        SbatFault::TooLong => Ok(Refused::TooLong),
+        SbatFault::NoMemory => Err(AllocError),
     }
 }
 
 /// The refusal for signature lists, with the offset of the list.
 fn of_lists(fault: ListsFault) -> Refused
     ensures tells { RefusesAs (lists.refusal_of fault) (Some (lists.place_of fault)) result }
-    ensures no_store { result ≢ Refused.Unavailable Outage.Store }
 {
     match fault {
         ListsFault::List { offset } => Refused::List(offset),
@@ -109,35 +103,29 @@ fn of_lists(fault: ListsFault) -> Refused
     }
 }
 
-/// The refusal of an image, all of whose reads succeeded.
-pub(crate) fn of_facts(fault: FactsFault) -> Refused
+/// The refusal of an image, all of whose reads succeeded, unless memory was refused.
+pub(crate) fn of_facts(fault: FactsFault) -> Result<Refused, AllocError>
     requires { facts.refusal_of fault ≢ Refusal.Read }
-    ensures tells { RefusesAs (facts.refusal_of fault) (facts.place_of fault) result }
-    ensures own { (result ≡ Refused.Unavailable Outage.NoMemory)
-        ⊎ (facts.refusal_of fault ≢ Refusal.NoMemory) }
-    ensures no_store { result ≢ Refused.Unavailable Outage.Store }
+    ensures tells { IfOk result (RefusesAs (facts.refusal_of fault) (facts.place_of fault)) }
 {
     match fault {
-        FactsFault::Layout(fault) => of_layout(fault),
+        FactsFault::Layout(fault) => Ok(of_layout(fault)),
         FactsFault::Read => unreachable!(),
         FactsFault::Carried(fault) => of_carried(fault),
         FactsFault::Components(fault) => of_sbat(fault),
-        FactsFault::NoMemory => NO_MEMORY,
+        FactsFault::NoMemory => Err(AllocError),
     }
 }
 
-/// The refusal of an import.
-pub(crate) fn of_import(fault: ImportFault) -> Refused
-    ensures tells { RefusesAs (imports.refusal_of fault) (imports.place_of fault) result }
-    ensures own { (result ≡ Refused.Unavailable Outage.NoMemory)
-        ⊎ (imports.refusal_of fault ≢ Refusal.NoMemory) }
-    ensures no_store { result ≢ Refused.Unavailable Outage.Store }
+/// The refusal of an import, unless memory was refused.
+pub(crate) fn of_import(fault: ImportFault) -> Result<Refused, AllocError>
+    ensures tells { IfOk result (RefusesAs (imports.refusal_of fault) (imports.place_of fault)) }
 {
     match fault {
-        ImportFault::Lists(fault) => of_lists(fault),
-        ImportFault::Record(number) => Refused::CsvRow(number),
-        ImportFault::Line(number) => Refused::SbatRow(number),
-        ImportFault::TooLong => Refused::TooLong,
-        ImportFault::NoMemory => NO_MEMORY,
+        ImportFault::Lists(fault) => Ok(of_lists(fault)),
+        ImportFault::Record(number) => Ok(Refused::CsvRow(number)),
+        ImportFault::Line(number) => Ok(Refused::SbatRow(number)),
+        ImportFault::TooLong => Ok(Refused::TooLong),
+        ImportFault::NoMemory => Err(AllocError),
     }
 }

@@ -9,7 +9,7 @@ use crate::answering::Answering;
 use crate::answers::Answer;
 use crate::bodies::{command_of, returned_file, submission};
 use crate::call::{Call, Task};
-use crate::reading::{judge, show};
+use crate::reading::{introduce, judge, show, tell};
 use crate::refusing::outage;
 use crate::taking::take;
 use desk_service::token_digest;
@@ -67,6 +67,7 @@ fn answer_image<D: Answering>(
             returned_file(alloc, number, image),
         ),
         ImageAsked::Verdict => judge(alloc, desk, image),
+        ImageAsked::Facts => tell(alloc, image),
     }
 }
 
@@ -89,8 +90,9 @@ pub fn answer<D: Answering>(alloc: Global, desk: &mut D, call: Call) -> Answer
     let Call { person, task } = call;
     match task {
         Task::Read(reading) => show(desk, person, reading),
+        Task::Me => introduce(person),
         Task::Image(asked, image) => answer_image(alloc, desk, person.name, asked, image),
-        Task::Command(key, command) => take(desk, person.name, &key, Ok(command)),
+        Task::Command(key, command) => take(desk, person.name, &key, Ok(Ok(command))),
         Task::Bytes(key, asked, bytes) => {
             take(desk, person.name, &key, command_of(alloc, asked, bytes))
         }

@@ -4,3 +4,4 @@ pub mod MinutePartLemmas
 pub mod OrderLemmas
 pub mod PartLemmas
 pub mod SpellingLemmas
+pub mod ShimLemmas

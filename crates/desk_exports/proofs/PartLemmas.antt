@@ -14,6 +14,20 @@ dbx-parts owner ds cs =
     flat_map-append list_bytes (sha256_row owner ds) (x509_sha256_row owner cs)
     ∙ ap₂ ◌++◌ (sha256_row-parts owner ds) (x509_sha256_row-parts owner cs)
 
+-- lists of one body each
+bodies-parts : (owner : List ℕ) (bodies : List (List ℕ)) → spelling (flat_map (x509_row owner) bodies) ≡ flat_map (λ body. spelling (x509_row owner body)) bodies
+bodies-parts owner [] = refl
+bodies-parts owner (body ∷ bodies) =
+    flat_map-append list_bytes (x509_row owner body) (flat_map (x509_row owner) bodies)
+    ∙ ap (λ l. spelling (x509_row owner body) ++ l) (bodies-parts owner bodies)
+
+pub shim-parts : (owner : List ℕ) (ds bodies cs : List (List ℕ)) → spelling (sha256_row owner ds ++ flat_map (x509_row owner) bodies ++ x509_sha256_row owner cs)
+    ≡ sha256_parts owner ds ++ flat_map (λ body. spelling (x509_row owner body)) bodies ++ x509_sha256_parts owner cs
+shim-parts owner ds bodies cs =
+    flat_map-append list_bytes (sha256_row owner ds ++ flat_map (x509_row owner) bodies) (x509_sha256_row owner cs)
+    ∙ ap₂ ◌++◌ (flat_map-append list_bytes (sha256_row owner ds) (flat_map (x509_row owner) bodies) ∙ ap₂ ◌++◌ (sha256_row-parts owner ds) (bodies-parts owner bodies))
+    (x509_sha256_row-parts owner cs)
+
 -- lists of one certificate each
 certificates-parts : (owner : List ℕ) (es : List Entry) → spelling (flat_map (λ e. x509_row owner e.body) es) ≡ flat_map (λ e. spelling (x509_row owner e.body)) es
 certificates-parts owner [] = refl

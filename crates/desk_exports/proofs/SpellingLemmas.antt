@@ -1,17 +1,18 @@
--- The bytes of dbx and of db, which spell their lists.
-use Rattle.std.proofs.Common.{◌≡◌, ◌≤◌, ℕ, All, Bool, true, false, not, cond, List, [], ◌∷◌, ◌++◌, length, map, filter, refl, sym, subst, arith, true≢false, nat_le}
+-- The bytes of dbx, of its form for shim, and of db, which spell their lists.
+use Rattle.std.proofs.Common.{◌≡◌, ◌≤◌, ℕ, All, Bool, true, false, not, cond, List, [], ◌∷◌, ◌++◌, length, map, filter, reverse, bytes_eq, refl, sym, subst, arith, true≢false, nat_le}
 use Rattle.std.specs.Prelude.{if◌then◌else◌}
-use Rattle.std.specs.List.{AllByRecursion, flat_map}
+use Rattle.std.specs.List.{AllByRecursion, cons_option, flat_map}
 use Rattle.std.proofs.lemmas.Bool.{and_parts}
 use Rattle.std.proofs.lemmas.Bool.Decides.{nat_tests}
 use Rattle.std.proofs.lemmas.List.{length-map}
 use Rattle.std.proofs.lemmas.List.Concat.{flat_map-append}
 use Rattle.std.proofs.lemmas.List.Elements.{All-head, All-tail, All-weaker, recursion_from_All}
+use Rattle.std.proofs.lemmas.List.Sorted.{IsPermutation-reverse}
 use Rattle.siglist.specs.SignatureLists.{SignatureList, Spells, list_bytes, spelling}
 use Rattle.siglist.specs.Writing.{most_digests, sha256_row, x509_row, x509_sha256_row}
 use Rattle.siglist.proofs.RowLemmas.{Spells-append}
 use Rattle.siglist.proofs.WritingLemmas.{sha256_spells, x509_sha256_spells, x509_spells}
-use Rattle.desk_texts.specs.Certificates.{is_certificate_size}
+use Rattle.desk_texts.specs.Certificates.{WholeCertificate, is_certificate_size}
 use Rattle.desk_texts.specs.Commands.{IsCommand, IsDigest}
 use Rattle.desk_texts.specs.Formed.{IsWithin}
 use Rattle.desk_texts.specs.declared.command.Command.{Command}
@@ -27,7 +28,8 @@ use Rattle.desk_history.specs.Runs.{is_legal}
 use Rattle.desk_history.proofs.FormedLemmas.{filter_fewer}
 use Rattle.desk_history.proofs.RevocationLemmas.{revocations_are_digests}
 use Rattle.desk_history.proofs.RunLemmas.{legal_parts}
-use Rattle.desk_exports.specs.Exports.{db, db_lists, dbx, dbx_lists, entries_of, revoked}
+use Rattle.desk_exports.specs.Bodies.{bodies_of, certificate_listed, certificates_given, is_bodiless}
+use Rattle.desk_exports.specs.Exports.{db, db_lists, dbx, dbx_lists, entries_of, revoked, revoked_bodies, revoked_bodiless, shim, shim_lists}
 use Rattle.desk_exports.proofs.OrderLemmas.{all_moved, length_ascending, sort_moved}
 
 joined : (ls ms : List SignatureList) → Spells ls (spelling ls) → Spells ms (spelling ms) → Spells (ls ++ ms) (spelling (ls ++ ms))
@@ -78,6 +80,90 @@ dbx_spells owner cs sixteen h =
     joined (sha256_row owner (revoked kinds.Digest cs)) (x509_sha256_row owner (revoked kinds.Certificate cs))
     (sha256_spells owner (revoked kinds.Digest cs) sixteen (revoked_sized kinds.Digest cs h.formed) (revoked_few kinds.Digest cs h.legal))
     (x509_sha256_spells owner (revoked kinds.Certificate cs) sixteen (revoked_sized kinds.Certificate cs h.formed) (revoked_few kinds.Certificate cs h.legal))
+
+-- ---- shim's form of dbx
+
+-- a text of these lengths fits an X509 list
+abbrev IsBody : List ℕ → Type 0
+IsBody body = is_certificate_size (length body) ≡ true
+
+body_spells : (owner body : List ℕ) → length owner ≡ 16 → IsBody body → Spells (x509_row owner body) (spelling (x509_row owner body))
+body_spells owner body sixteen h =
+    let parts : (nat_le 1 (length body) ≡ true) × (nat_le (length body) 65536 ≡ true) = and_parts (nat_le 1 (length body)) (nat_le (length body) 65536) h in
+    let some : 1 ≤ length body = grind (arith, nat_tests, parts.0) in
+    let most : length body ≤ 65536 = grind (arith, nat_tests, parts.1) in
+    x509_spells owner body sixteen some most
+
+bodies_spell : (owner : List ℕ) (bodies : List (List ℕ)) → length owner ≡ 16 → AllByRecursion IsBody bodies
+    → Spells (flat_map (x509_row owner) bodies) (spelling (flat_map (x509_row owner) bodies))
+bodies_spell owner [] sixteen h = refl
+bodies_spell owner (body ∷ bodies) sixteen h =
+    joined (x509_row owner body) (flat_map (x509_row owner) bodies) (body_spells owner body sixteen h.0) (bodies_spell owner bodies sixteen h.1)
+
+abbrev HasFitBody : WholeCertificate → Type 0
+HasFitBody c = IsBody c.body
+
+listed_fits : (c : Command) → IsWithin c → (cs : List WholeCertificate) → AllByRecursion HasFitBody cs → AllByRecursion HasFitBody (cons_option (certificate_listed c) cs)
+listed_fits (command.ListCertificate c) w cs h = (w, h)
+listed_fits (command.ListDigest _) w cs h = h
+listed_fits (command.Unlist _) w cs h = h
+listed_fits (command.AddPerson _) w cs h = h
+listed_fits (command.Submit _) w cs h = h
+listed_fits (command.Review _) w cs h = h
+listed_fits (command.Withdraw _) w cs h = h
+listed_fits (command.Return _) w cs h = h
+listed_fits (command.RevokeDigest _) w cs h = h
+listed_fits (command.RevokeCertificate _) w cs h = h
+listed_fits (command.RaiseLevel _) w cs h = h
+listed_fits (command.ImportRevocations _) w cs h = h
+listed_fits (command.Confirm _) w cs h = h
+listed_fits (command.Drop _) w cs h = h
+
+given_fit : (cs : History) → All IsItem cs → AllByRecursion HasFitBody (certificates_given cs)
+given_fit [] h = tt
+given_fit (i ∷ cs) h = listed_fits i.call.command (All-head IsItem i cs h).limits (certificates_given cs) (given_fit cs (All-tail IsItem i cs h))
+
+mapped_fit : (cs : List WholeCertificate) → AllByRecursion HasFitBody cs → AllByRecursion IsBody (map (λ c. c.body) cs)
+mapped_fit [] h = tt
+mapped_fit (c ∷ cs) h = (h.0, mapped_fit cs h.1)
+
+-- each text once has what each text has
+once_has : (P : List ℕ → Type 0) (ts : List (List ℕ)) → AllByRecursion P ts → AllByRecursion P (distinct ts)
+once_has P [] h = tt
+once_has P (t ∷ ts) h =
+    let rest : AllByRecursion P (distinct ts) = once_has P ts h.1 in
+    elim (is_among ts t) as (λ b. AllByRecursion P (if b then distinct ts else t ∷ distinct ts)) [ true ↦ rest | false ↦ (h.0, rest) ]
+
+joined_have : {Y : Type 0} (P : Y → Type 0) (xs ys : List Y) → AllByRecursion P xs → AllByRecursion P ys → AllByRecursion P (xs ++ ys)
+joined_have P [] ys h k = k
+joined_have P (x ∷ xs) ys h k = (h.0, joined_have P xs ys h.1 k)
+
+bodies_fit : (cs : History) → All IsItem cs → (tbs : List ℕ) → AllByRecursion IsBody (bodies_of tbs cs)
+bodies_fit cs h tbs =
+    let given = filter (λ (c : WholeCertificate). bytes_eq tbs c.tbs) (certificates_given cs) in
+    let once = distinct (map (λ (c : WholeCertificate). c.body) given) in
+    all_moved IsBody once (reverse once) (IsPermutation-reverse once)
+    (once_has IsBody (map (λ (c : WholeCertificate). c.body) given) (mapped_fit given (kept HasFitBody HasFitBody (λ c. bytes_eq tbs c.tbs) (λ c fit _. fit) (certificates_given cs) (given_fit cs h))))
+
+each_fit : (cs : History) → All IsItem cs → (ones : List (List ℕ)) → AllByRecursion IsBody (flat_map (λ tbs. bodies_of tbs cs) ones)
+each_fit cs h [] = tt
+each_fit cs h (tbs ∷ ones) = joined_have IsBody (bodies_of tbs cs) (flat_map (λ tbs. bodies_of tbs cs) ones) (bodies_fit cs h tbs) (each_fit cs h ones)
+
+pub bodiless_few : (cs : History) → is_legal cs ≡ true → length (revoked_bodiless cs) ≤ most_digests
+bodiless_few cs h =
+    let fewer : length (revoked_bodiless cs) ≤ length (revoked kinds.Certificate cs) = filter_fewer (is_bodiless cs) (revoked kinds.Certificate cs) in
+    let few : length (revoked kinds.Certificate cs) ≤ most_digests = revoked_few kinds.Certificate cs h in
+    omega arith
+
+pub shim_spells : (owner : List ℕ) (cs : History) → length owner ≡ 16 → IsHistory cs → Spells (shim_lists owner cs) (shim owner cs)
+shim_spells owner cs sixteen h =
+    let others = revoked_bodiless cs in
+    joined (sha256_row owner (revoked kinds.Digest cs) ++ flat_map (x509_row owner) (revoked_bodies cs)) (x509_sha256_row owner others)
+    (joined (sha256_row owner (revoked kinds.Digest cs)) (flat_map (x509_row owner) (revoked_bodies cs))
+    (sha256_spells owner (revoked kinds.Digest cs) sixteen (revoked_sized kinds.Digest cs h.formed) (revoked_few kinds.Digest cs h.legal))
+    (bodies_spell owner (revoked_bodies cs) sixteen (each_fit cs h.formed (revoked kinds.Certificate cs))))
+    (x509_sha256_spells owner others sixteen
+    (kept HasSize HasSize (is_bodiless cs) (λ d sized _. sized) (revoked kinds.Certificate cs) (revoked_sized kinds.Certificate cs h.formed)) (bodiless_few cs h.legal))
 
 -- ---- db
 
@@ -144,10 +230,7 @@ certificates_spell : (owner : List ℕ) (es : List Entry) → length owner ≡ 1
     → Spells (flat_map (λ e. x509_row owner e.body) es) (spelling (flat_map (λ e. x509_row owner e.body) es))
 certificates_spell owner [] sixteen h = refl
 certificates_spell owner (e ∷ es) sixteen h =
-    let parts : (nat_le 1 (length e.body) ≡ true) × (nat_le (length e.body) 65536 ≡ true) = and_parts (nat_le 1 (length e.body)) (nat_le (length e.body) 65536) h.0 in
-    let some : 1 ≤ length e.body = grind (arith, nat_tests, parts.0) in
-    let most : length e.body ≤ 65536 = grind (arith, nat_tests, parts.1) in
-    joined (x509_row owner e.body) (flat_map (λ e. x509_row owner e.body) es) (x509_spells owner e.body sixteen some most) (certificates_spell owner es sixteen h.1)
+    joined (x509_row owner e.body) (flat_map (λ e. x509_row owner e.body) es) (body_spells owner e.body sixteen h.0) (certificates_spell owner es sixteen h.1)
 
 pub db_spells : (owner : List ℕ) (cs : History) → length owner ≡ 16 → IsHistory cs → Spells (db_lists owner cs) (db owner cs)
 db_spells owner cs sixteen h =

@@ -1,5 +1,5 @@
--- The exports of a desk with this owner after these calls: dbx and db as signature lists (UEFI
--- 2.10, section 32.4.1), the level (shim's SBAT.md), and the minutes.
+-- The exports of a desk with this owner after these calls: dbx, also in shim's form, and db as
+-- signature lists (UEFI 2.10, section 32.4.1), the level (shim's SBAT.md), and the minutes.
 use Rattle.std.specs.Prelude.{ℕ, List, ◌++◌, codes, decimal, filter, flat_map, map, reverse}
 use Rattle.sbat.specs.declared.component.Component.{Component}
 use Rattle.sbat.specs.Writing.{level_lines}
@@ -17,6 +17,7 @@ use Rattle.desk_history.specs.Listing.{listed}
 use Rattle.desk_history.specs.Replies.{minutes}
 use Rattle.desk_history.specs.Revocations.{revocations}
 use Rattle.desk_history.specs.Tables.{level_rows}
+use Rattle.desk_exports.specs.Bodies.{bodies_of, is_bodiless}
 use Rattle.desk_exports.specs.Orders.{ascending, ascending_by}
 use Rattle.desk_exports.specs.declared.export.Export.{Export}
 use Rattle.desk_exports.specs.declared.export.Export.TheVariants as exports
@@ -33,6 +34,25 @@ dbx_lists owner cs = sha256_row owner (revoked kinds.Digest cs) ++ x509_sha256_r
 -- the bytes of dbx
 abbrev pub dbx : List ℕ → History → List ℕ
 dbx owner cs = spelling (dbx_lists owner cs)
+
+-- the bodies that calls gave for revoked certificates, by the certificates in ascending order
+abbrev pub revoked_bodies : History → List (List ℕ)
+revoked_bodies cs = flat_map (λ tbs. bodies_of tbs cs) (revoked kinds.Certificate cs)
+
+-- the revoked certificates of which no call gave a body
+abbrev pub revoked_bodiless : History → List (List ℕ)
+revoked_bodiless cs = filter (is_bodiless cs) (revoked kinds.Certificate cs)
+
+-- own: what dbx revokes, as shim reads it, which passes over X509_SHA256 lists: the SHA256 list of
+-- dbx; an X509 list for each body of a revoked certificate; one X509_SHA256 list of those without
+abbrev pub shim_lists : List ℕ → History → List SignatureList
+shim_lists owner cs =
+    sha256_row owner (revoked kinds.Digest cs) ++ flat_map (x509_row owner) (revoked_bodies cs)
+    ++ x509_sha256_row owner (revoked_bodiless cs)
+
+-- the bytes of dbx in this form
+abbrev pub shim : List ℕ → History → List ℕ
+shim owner cs = spelling (shim_lists owner cs)
 
 -- the listed entries of this kind, ascending by their digests
 abbrev pub entries_of : ListedKind → History → List Entry
@@ -71,5 +91,6 @@ minutes_text cs = flat_map minute_line (reverse (minutes cs))
 abbrev pub exported : Export → List ℕ → History → List ℕ
 exported exports.Db owner cs = db owner cs
 exported exports.Dbx owner cs = dbx owner cs
+exported exports.Shim owner cs = shim owner cs
 exported exports.Level owner cs = level cs
 exported exports.Minutes owner cs = minutes_text cs

@@ -1,3 +1,4 @@
+pub mod Bodies
 pub mod Exports
 pub mod Laws
 pub mod MinutesShown

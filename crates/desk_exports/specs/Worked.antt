@@ -2,14 +2,15 @@
 use Rattle.std.specs.Prelude.{◌≡◌, ℕ, List, [], ◌∷◌, ◌++◌, codes, length, None}
 use Rattle.desk_texts.specs.declared.command.Command.TheVariants as command
 use Rattle.desk_texts.specs.declared.role.Role.TheVariants as roles
-use Rattle.desk_history.specs.Calls.{History, item}
+use Rattle.desk_texts.specs.declared.kind.ListedKind.TheVariants as kinds
+use Rattle.desk_history.specs.Calls.{History, Item, item}
 use Rattle.desk_history.specs.Worked.{by, digest, imported, officers_added, people_added, person, raise}
 use Rattle.desk_history.specs.Worked.Impact as impact
 use Rattle.desk_history.specs.Worked.Imports.{listed_history}
 use Rattle.desk_history.specs.Worked.Levels as levels
 use Rattle.desk_history.specs.Worked.Proposals as proposals
 use Rattle.desk_history.specs.Worked.Returns as returns
-use Rattle.desk_exports.specs.Exports.{db, dbx, level, minutes_text}
+use Rattle.desk_exports.specs.Exports.{db, dbx, level, minutes_text, shim}
 use Rattle.desk_exports.specs.Reports.{report}
 
 -- the GUID 00112233-4455-6677-8899-aabbccddeeff, as it is stored
@@ -19,7 +20,7 @@ owner = 0x33 ∷ 0x22 ∷ 0x11 ∷ 0x00 ∷ 0x55 ∷ 0x44 ∷ 0x77 ∷ 0x66 ∷ 
 -- a desk without calls
 abbrev pub ExportsNothing : Type 0
 ExportsNothing =
-    (dbx owner [] ≡ []) × (db owner [] ≡ []) × (level [] ≡ codes "sbat,1,2021030218\n") × (minutes_text [] ≡ [])
+    (dbx owner [] ≡ []) × (shim owner [] ≡ []) × (db owner [] ≡ []) × (level [] ≡ codes "sbat,1,2021030218\n") × (minutes_text [] ≡ [])
 
 -- the certificate of seven bytes is listed
 abbrev one_listed : History
@@ -42,6 +43,41 @@ bb_list = 0x92 ∷ 0xa4 ∷ 0xd2 ∷ 0x3b ∷ 0xc0 ∷ 0x96 ∷ 0x79 ∷ 0x40 �
 -- the bytes of dbx after imports of both
 abbrev pub ExportsImport : Type 0
 ExportsImport = dbx owner listed_history ≡ aa_list ++ bb_list
+
+-- X509 lists of two bodies of one certificate
+abbrev seven_list : List ℕ
+seven_list = 0xa1 ∷ 0x59 ∷ 0xc0 ∷ 0xa5 ∷ 0xe4 ∷ 0x94 ∷ 0xa7 ∷ 0x4a ∷ 0x87 ∷ 0xb5 ∷ 0xab ∷ 0x15 ∷ 0x5c ∷ 0x2b ∷ 0xf0 ∷ 0x72 ∷ 0x33 ∷ 0x00 ∷ 0x00 ∷ 0x00 ∷ 0x00 ∷ 0x00 ∷ 0x00 ∷ 0x00 ∷ 0x17 ∷ 0x00 ∷ 0x00 ∷ 0x00 ∷ 0x33 ∷ 0x22 ∷ 0x11 ∷ 0x00 ∷ 0x55 ∷ 0x44 ∷ 0x77 ∷ 0x66 ∷ 0x88 ∷ 0x99 ∷ 0xaa ∷ 0xbb ∷ 0xcc ∷ 0xdd ∷ 0xee ∷ 0xff ∷ 0x30 ∷ 0x05 ∷ 0x30 ∷ 0x03 ∷ 0x02 ∷ 0x01 ∷ 0x01 ∷ []
+
+abbrev five_list : List ℕ
+five_list = 0xa1 ∷ 0x59 ∷ 0xc0 ∷ 0xa5 ∷ 0xe4 ∷ 0x94 ∷ 0xa7 ∷ 0x4a ∷ 0x87 ∷ 0xb5 ∷ 0xab ∷ 0x15 ∷ 0x5c ∷ 0x2b ∷ 0xf0 ∷ 0x72 ∷ 0x31 ∷ 0x00 ∷ 0x00 ∷ 0x00 ∷ 0x00 ∷ 0x00 ∷ 0x00 ∷ 0x00 ∷ 0x15 ∷ 0x00 ∷ 0x00 ∷ 0x00 ∷ 0x33 ∷ 0x22 ∷ 0x11 ∷ 0x00 ∷ 0x55 ∷ 0x44 ∷ 0x77 ∷ 0x66 ∷ 0x88 ∷ 0x99 ∷ 0xaa ∷ 0xbb ∷ 0xcc ∷ 0xdd ∷ 0xee ∷ 0xff ∷ 0x30 ∷ 0x03 ∷ 0x02 ∷ 0x01 ∷ 0x01 ∷ []
+
+-- an X509_SHA256 list of a certificate's digest dd
+abbrev dd_list : List ℕ
+dd_list = 0x92 ∷ 0xa4 ∷ 0xd2 ∷ 0x3b ∷ 0xc0 ∷ 0x96 ∷ 0x79 ∷ 0x40 ∷ 0xb4 ∷ 0x20 ∷ 0xfc ∷ 0xf9 ∷ 0x8e ∷ 0xf1 ∷ 0x03 ∷ 0xed ∷ 0x5c ∷ 0x00 ∷ 0x00 ∷ 0x00 ∷ 0x00 ∷ 0x00 ∷ 0x00 ∷ 0x00 ∷ 0x40 ∷ 0x00 ∷ 0x00 ∷ 0x00 ∷ 0x33 ∷ 0x22 ∷ 0x11 ∷ 0x00 ∷ 0x55 ∷ 0x44 ∷ 0x77 ∷ 0x66 ∷ 0x88 ∷ 0x99 ∷ 0xaa ∷ 0xbb ∷ 0xcc ∷ 0xdd ∷ 0xee ∷ 0xff ∷ 0xdd ∷ 0xdd ∷ 0xdd ∷ 0xdd ∷ 0xdd ∷ 0xdd ∷ 0xdd ∷ 0xdd ∷ 0xdd ∷ 0xdd ∷ 0xdd ∷ 0xdd ∷ 0xdd ∷ 0xdd ∷ 0xdd ∷ 0xdd ∷ 0xdd ∷ 0xdd ∷ 0xdd ∷ 0xdd ∷ 0xdd ∷ 0xdd ∷ 0xdd ∷ 0xdd ∷ 0xdd ∷ 0xdd ∷ 0xdd ∷ 0xdd ∷ 0xdd ∷ 0xdd ∷ 0xdd ∷ 0xdd ∷ 0x00 ∷ 0x00 ∷ 0x00 ∷ 0x00 ∷ 0x00 ∷ 0x00 ∷ 0x00 ∷ 0x00 ∷ 0x00 ∷ 0x00 ∷ 0x00 ∷ 0x00 ∷ 0x00 ∷ 0x00 ∷ 0x00 ∷ 0x00 ∷ []
+
+-- a certificate's body is given
+abbrev given : ℕ → List ℕ → List ℕ → Item
+given byte key body = item (by (codes "olga") key (command.ListCertificate (record { tbs = digest byte; body = body })))
+
+-- two bodies of the certificate bb are given, one of them twice; it is unlisted; aa, bb and dd are
+-- revoked
+abbrev with_bodies : History
+with_bodies =
+    item (by (codes "otto") (codes "otto-1") (command.Confirm 1))
+    ∷ item (by (codes "olga") (codes "olga-6") (imported None 0 (digest 170 ∷ []) (digest 187 ∷ digest 221 ∷ []) []))
+    ∷ item (by (codes "olga") (codes "olga-5") (command.Unlist (record { kind = kinds.Certificate; digest = digest 187 })))
+    ∷ given 187 (codes "olga-4") (0x30 ∷ 0x05 ∷ 0x30 ∷ 0x03 ∷ 0x02 ∷ 0x01 ∷ 0x01 ∷ [])
+    ∷ given 204 (codes "olga-3") (0x30 ∷ 0x03 ∷ 0x02 ∷ 0x01 ∷ 0x02 ∷ [])
+    ∷ given 187 (codes "olga-2") (0x30 ∷ 0x03 ∷ 0x02 ∷ 0x01 ∷ 0x01 ∷ [])
+    ∷ given 187 (codes "olga-1") (0x30 ∷ 0x05 ∷ 0x30 ∷ 0x03 ∷ 0x02 ∷ 0x01 ∷ 0x01 ∷ [])
+    ∷ officers_added
+
+-- in shim's form bb has a list for each of its bodies, and dd, of which no call gave one, its digest;
+-- without bodies it is dbx
+abbrev pub ExportsShim : Type 0
+ExportsShim =
+    (shim owner with_bodies ≡ aa_list ++ seven_list ++ five_list ++ dd_list)
+    × (shim owner listed_history ≡ aa_list ++ bb_list)
 
 -- a proposal isn't exported until it is confirmed
 abbrev pub ExportsProposals : Type 0

@@ -11,6 +11,12 @@ pub enum Export {
     /// revoked digests of images, and one X509_SHA256 list of the revoked certificates, each
     /// ascending; a kind without entries has no list.
     Dbx,
+    /// The revoked entries, as shim reads them: it passes over X509_SHA256 lists. One SHA256 list of
+    /// the revoked digests of images; for each revoked certificate, ascending by their digests, an
+    /// X509 list of each body that some ListCertificate gave, unlisted since or not, once, in the
+    /// order of the calls; one X509_SHA256 list of the revoked certificates of which no call gave a
+    /// body. A kind without entries has no list.
+    Shim,
     /// The SBAT level, as text (shim's SBAT.md): `sbat,1,` and its stamp, then a line for each
     /// component, ascending by name.
     Level,

@@ -14,18 +14,24 @@ ghost use Rattle.desk_history.specs.Listing.{listed};
 ghost use Rattle.desk_history.specs.Revocations.{is_revoked, revocations};
 ghost use Rattle.desk_history.specs.Tables.{level_rows};
 ghost use Rattle.desk_exports.specs.Exports.{db, db_lists, dbx, dbx_lists, entries_of, level, level_components, revoked};
+ghost use Rattle.desk_exports.specs.Exports.{revoked_bodies, revoked_bodiless, shim, shim_lists};
 ghost use Rattle.desk_exports.specs.Laws as law;
 ghost use Rattle.desk_exports.specs.MinutesShown as shown;
 ghost use Rattle.desk_exports.specs.Orders.{IsInOrder};
 ghost use Rattle.desk_exports.specs.Worked as worked;
 
 /// An export is its parts, one after another: of dbx, a head and its entries for each kind that is
-/// revoked; of db, those of the listed digests and then a list for each listed certificate; of the
-/// level, its first line and a line for each component.
+/// revoked; of shim's form, a head and entries for the digests, a list for each body, and a head and
+/// entries for the other certificates; of db, those of the listed digests and then a list for each
+/// listed certificate; of the level, its first line and a line for each component.
 pub fn exports_are_their_parts()
     ensures dbx { (owner : List ℕ) (cs : History) → dbx owner cs
         ≡ sha256_parts owner (revoked kinds.Digest cs)
         ++ x509_sha256_parts owner (revoked kinds.Certificate cs) }
+    ensures shim { (owner : List ℕ) (cs : History) → shim owner cs
+        ≡ sha256_parts owner (revoked kinds.Digest cs)
+        ++ flat_map (λ body. spelling (x509_row owner body)) (revoked_bodies cs)
+        ++ x509_sha256_parts owner (revoked_bodiless cs) }
     ensures db { (owner : List ℕ) (cs : History) → db owner cs
         ≡ sha256_parts owner (map (λ e. e.digest) (entries_of kinds.Digest cs))
         ++ flat_map (λ e. spelling (x509_row owner e.body)) (entries_of kinds.Certificate cs) }
@@ -34,12 +40,14 @@ pub fn exports_are_their_parts()
         ++ flat_map (λ x. row_text x.name x.generation) (level_components cs) }
 {}
 
-/// For a desk's history and an owner of 16 bytes, the bytes of dbx spell the lists of dbx, and
-/// those of db the lists of db (UEFI 2.10, section 32.4.1): each size fits its field, and the bytes
-/// spell no other lists.
+/// For a desk's history and an owner of 16 bytes, the bytes of dbx spell the lists of dbx, those of
+/// shim's form its lists, and those of db the lists of db (UEFI 2.10, section 32.4.1): each size fits
+/// its field, and the bytes spell no other lists.
 pub fn exports_are_spelt()
     ensures dbx { (owner : List ℕ) (cs : History) → length owner ≡ 16 → IsHistory cs
         → Spells (dbx_lists owner cs) (dbx owner cs) }
+    ensures shim { (owner : List ℕ) (cs : History) → length owner ≡ 16 → IsHistory cs
+        → Spells (shim_lists owner cs) (shim owner cs) }
     ensures db { (owner : List ℕ) (cs : History) → length owner ≡ 16 → IsHistory cs
         → Spells (db_lists owner cs) (db owner cs) }
 {}
@@ -56,6 +64,15 @@ pub fn exports_are_in_order()
         (filter (λ e. is_same_kind kind e.kind) (listed cs)) (entries_of kind cs) }
     ensures level { (cs : History)
         → IsInOrder (λ x. x.name) (level_rows (generations cs)) (level_components cs) }
+{}
+
+/// Shim's form of dbx revokes what dbx does. It has the same SHA256 list; its X509 lists have the
+/// bodies that calls gave for revoked certificates, and its X509_SHA256 list the revoked
+/// certificates of which no call gave one.
+pub fn shim_revokes_the_same()
+    ensures bodies { law.ShimHasBodies }
+    ensures others { law.ShimHasOthers }
+    ensures one { law.ShimHasOne }
 {}
 
 /// In bytes, dbx has the length that the numbers of revoked digests and certificates give it; after
@@ -84,6 +101,7 @@ pub fn exports_are_written()
     ensures nothing { worked.ExportsNothing }
     ensures db { worked.ExportsDb }
     ensures import { worked.ExportsImport }
+    ensures shim { worked.ExportsShim }
     ensures proposals { worked.ExportsProposals }
     ensures impact { worked.ExportsImpact }
     ensures order { worked.ExportsInOrder }

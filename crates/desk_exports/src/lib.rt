@@ -15,7 +15,7 @@ mod shown_proposals;
 pub use export::Export;
 pub use laws::{
     exports_are_in_order, exports_are_spelt, exports_are_their_parts, exports_are_written,
-    lengths_come_true, minutes_come_in_parts, minutes_go_on,
+    lengths_come_true, minutes_come_in_parts, minutes_go_on, shim_revokes_the_same,
 };
 pub use octets::Octets;
 pub use reading::Reading;

@@ -1,5 +1,5 @@
 -- From a call that the first rules accept to the history that the store shows after it.
-use Rattle.std.proofs.Common.{◌≡◌, ℕ, List, [], ◌∷◌, length, true, false, None, Some, refl, ap, subst, ◌∙◌, arith}
+use Rattle.std.proofs.Common.{◌≡◌, ◌≢◌, ℕ, List, [], ◌∷◌, length, true, false, None, Some, refl, sym, ap, subst, ◌∙◌, arith}
 use Rattle.std.proofs.lemmas.List.Elements.{All-cons}
 use Rattle.sqlite.specs.Store as store
 use Rattle.sqlite.specs.Held.{Held, state}
@@ -11,9 +11,10 @@ use Rattle.desk_texts.specs.declared.reply.Reply.{Reply}
 use Rattle.desk_history.specs.Calls.{First, History, under}
 use Rattle.desk_history.specs.Formed.{IsHistory, IsItem}
 use Rattle.desk_history.specs.Replies.{minutes}
-use Rattle.desk_history.specs.Runs.{is_legal, ruling}
+use Rattle.desk_history.specs.Runs.{is_accepted, is_legal, ruling}
 use Rattle.desk_history.specs.Tables.{MigratedRow, Tables, tables}
 use Rattle.desk_history.specs.Writes.{all_written}
+use Rattle.desk_history.specs.declared.answer.Answer.{Answer}
 use Rattle.desk_history.specs.declared.answer.Answer.TheVariants.{Accepted}
 use Rattle.desk_history.proofs.RunLemmas.{next_legal}
 use Rattle.desk_rules.specs.First.{ShowsToFirst}
@@ -25,9 +26,8 @@ use Rattle.store_schema.specs.rows.Contents.{contents}
 use Rattle.store_schema.specs.rows.Histories.{AreFirst, ShowsHistory}
 use Rattle.store_sql.specs.States.{Changes, Sees}
 use Rattle.store_sql.proofs.CommitLemmas.{Worked}
-use Rattle.store_sql.proofs.StopLemmas.{shows_all}
-use Rattle.desk_first.specs.declared.acting.Followed.{Followed}
-use Rattle.desk_first.specs.Acts.{Accepts, AcceptsWith, ActsFirst, FirstPast, FollowsInside, FollowsOutside, IsNotAccepted, after, before}
+use Rattle.store_sql.proofs.StopLemmas.{holds_all, shows_all, tables_of}
+use Rattle.desk_first.specs.Acts.{Accepts, AcceptsWith, ActsFirst, FirstPast, FollowsInside, FollowsOutside, IsOther, LeavesFollowed, after, before}
 use Rattle.store_views.specs.declared.remembered.Remembered.{Remembered}
 use Rattle.store_views.specs.remembered.Current.{IsCurrent, StaysCurrent}
 use Rattle.store_views.specs.sizes.Sizes.{AreAllKnown, AreRight, KnowsNoLess}
@@ -71,7 +71,7 @@ module _ (r : Remembered) (c : Call) (v : View) (first read last : State) (decid
       ap (with_first_calls calls) (told p sees).made
       ∙ counted_tables p.owner (under First c ∷ p.calls) calls p.first (tells later_tables (right p sees).0.sizes (known p sees))
 
-  pub follows_inside : FollowsInside r c (record { reply = decided.reply; remembered = later }) first last
+  pub follows_inside : FollowsInside r c decided.reply later first last
   follows_inside = record {
     turned = record {
       is_open = λ o. wrote.is_open (seen.is_open o);
@@ -85,9 +85,16 @@ module _ (r : Remembered) (c : Call) (v : View) (first read last : State) (decid
     answered = λ p sees. record { accepted = (told p sees).accepted; right = (right p sees).0; known = known p sees };
   }
 
+-- the call is accepted with another reply than the one that is told, or isn't
+pub other_reply : (a : Answer) (given reply : Reply) → a ≡ Accepted given → given ≢ reply → a ≢ Accepted reply
+other_reply a given reply accepted differs is = differs (let same : ◌≡◌ {A = Answer} (Accepted given) (Accepted reply) = sym accepted ∙ is in cc)
+
+pub no_reply : (a : Answer) (reply : Reply) → is_accepted a ≡ false → a ≢ Accepted reply
+no_reply a reply out is = absurd (let accepted : is_accepted a ≡ true = ap is_accepted is in cc)
+
 -- ---- the whole transaction
 
-module _ {S : Type 0} (g : store.Ghosts S) (old last end : Held S) (r : Remembered) (c : Call) where
+module _ {S : Type 0} (g : store.Ghosts S) (old last end : Held S) (r : Remembered) (c : Call) (reply : Reply) where
   -- the transaction that began shows what the connection shows
   sees_begun : (does : State → State → Type 0) → Worked g old last does → HasCleanDisk (state g last) → (p : FirstPast r) → ShowsHistory (state g old) p.owner p.calls
       → Sees desk_layout (state g (record old { in_transaction = true })) (before r p)
@@ -96,15 +103,25 @@ module _ {S : Type 0} (g : store.Ghosts S) (old last end : Held S) (r : Remember
     holds = (shows.holds (omega (arith, did.spares.clean, late)) ((did.kept late).was_open (did.inside late).0)).0;
   }
 
-  -- the call was accepted, and its rows are committed
-  pub committed : (followed : Followed) → Worked g old last (ActsFirst r c (Some followed)) → HasCleanDisk (state g last)
-      → states.Shows (state g last) (state g end) (state g last).now (state g last).now false → FollowsOutside r c followed (state g old) (state g end)
-  committed followed did late done = record {
+  -- the call was followed, and its rows are committed
+  pub committed : (later : Remembered) → Worked g old last (ActsFirst r c reply (Some later)) → HasCleanDisk (state g last)
+      → states.Shows (state g last) (state g end) (state g last).now (state g last).now false → FollowsOutside r c reply later (state g old) (state g end)
+  committed later did late done = record {
     is_open = done.is_open;
-    answered = λ p shows. (did.value late).answered p (sees_begun (ActsFirst r c (Some followed)) did late p shows);
+    answered = λ p shows. (did.value late).answered p (sees_begun (ActsFirst r c reply (Some later)) did late p shows);
     shown = shows_all desk_layout (before r) (after r c) g old last end did.spares (λ clean. ((did.inside clean).0, (did.value clean).turned)) late done;
   }
 
-  -- it wasn't accepted
-  pub passed : Worked g old last (ActsFirst r c None) → HasCleanDisk (state g last) → (p : FirstPast r) → ShowsHistory (state g old) p.owner p.calls → IsNotAccepted c p
-  passed did late p shows = did.value late p (sees_begun (ActsFirst r c None) did late p shows)
+  -- its trees are those of the next history
+  pub followed_trees : (later : Remembered) → Worked g old last (ActsFirst r c reply (Some later)) → HasCleanDisk (state g last)
+      → LeavesFollowed (state g old) r c reply (state g last).now.trees
+  followed_trees later did late p shows =
+      let acts = did.value late in
+      let sees = holds_all desk_layout (before r) (after r c) g old last last p shows (omega (arith, did.spares.clean, late)) (did.inside late).0 acts.turned in (
+        (acts.answered p (sees_begun (ActsFirst r c reply (Some later)) did late p shows)).accepted,
+        tables_of desk_layout (state g last).now (after r c p) sees.holds,
+      )
+
+  -- it wasn't
+  pub passed : Worked g old last (ActsFirst r c reply None) → HasCleanDisk (state g last) → (p : FirstPast r) → ShowsHistory (state g old) p.owner p.calls → IsOther c reply p
+  passed did late p shows = did.value late p (sees_begun (ActsFirst r c reply None) did late p shows)

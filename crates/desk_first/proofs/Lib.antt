@@ -1,3 +1,5 @@
 mod MigratedLemmas
 mod DecidingLemmas
 mod ActingLemmas
+mod DeskLemmas
+mod PastLemmas

@@ -1,8 +1,10 @@
 -- The effect of a call by the first rules on the tables: inside its transaction, and as a whole.
-use Rattle.std.specs.Prelude.{◌≡◌, ℕ, List, ◌∷◌, false, Option, Some, None, IsTrue}
+use Rattle.std.specs.Prelude.{◌≡◌, ◌≢◌, ℕ, List, ◌∷◌, false, Option, Some, None, IsTrue}
 use Rattle.std.specs.List.{list_all}
 use Rattle.sqlite.specs.State.{State}
+use Rattle.sqlite.specs.Tree.{Trees}
 use Rattle.desk_texts.specs.declared.command.Call.{Call}
+use Rattle.desk_texts.specs.declared.reply.Reply.{Reply}
 use Rattle.desk_history.specs.Calls.{First, History, is_first, under}
 use Rattle.desk_history.specs.Formed.{IsHistory}
 use Rattle.desk_history.specs.Runs.{is_accepted, is_legal, ruling}
@@ -15,8 +17,7 @@ use Rattle.desk_rules.specs.declared.view.View.{View}
 use Rattle.store_sql.specs.Contents.{Contents}
 use Rattle.store_sql.specs.States.{Sees, Turns}
 use Rattle.store_schema.specs.Tables.{desk_layout}
-use Rattle.store_schema.specs.rows.Histories.{AreFirst, ShowsHistory, rows_of}
-use Rattle.desk_first.specs.declared.acting.Followed.{Followed}
+use Rattle.store_schema.specs.rows.Histories.{AreFirst, HoldsHistory, ShowsHistory, rows_of}
 use Rattle.store_views.specs.declared.remembered.Remembered.{Remembered}
 use Rattle.store_views.specs.remembered.Current.{IsCurrent}
 use Rattle.store_views.specs.sizes.Sizes.{AreAllKnown, but_migrated}
@@ -38,10 +39,6 @@ before r p = rows_of p.owner p.calls
 -- the rows of the history with the call
 abbrev pub after : (r : Remembered) → Call → FirstPast r → Contents
 after r c p = rows_of p.owner (under First c ∷ p.calls)
-
--- the call isn't accepted by the first rules
-abbrev pub IsNotAccepted : {r : Remembered} → Call → FirstPast r → Type 0
-IsNotAccepted c p = is_accepted (ruling p.calls (under First c)) ≡ false
 
 -- ---- the decision
 
@@ -65,30 +62,40 @@ AcceptsNot v c =
 
 -- ---- the call
 
+-- the call isn't accepted by the first rules with this reply
+abbrev pub IsOther : {r : Remembered} → Call → Reply → FirstPast r → Type 0
+IsOther c reply p = ruling p.calls (under First c) ≢ Accepted reply
+
 -- the call is accepted with the reply, and what is remembered is current for the next history's tables
 -- and has each size
-pub record IsFollowed {r : Remembered} (c : Call) (followed : Followed) (p : FirstPast r) : Type 0 where
-  pub accepted : ruling p.calls (under First c) ≡ Accepted followed.reply
-  pub right : IsCurrent followed.remembered (tables p.owner (under First c ∷ p.calls))
-  pub known : AreAllKnown followed.remembered.sizes
+pub record IsFollowed {r : Remembered} (c : Call) (reply : Reply) (later : Remembered) (p : FirstPast r) : Type 0 where
+  pub accepted : ruling p.calls (under First c) ≡ Accepted reply
+  pub right : IsCurrent later (tables p.owner (under First c ∷ p.calls))
+  pub known : AreAllKnown later.sizes
 
 -- inside a transaction the tables turn into those of the next history, and the call is accepted
-pub record FollowsInside (r : Remembered) (c : Call) (followed : Followed) (old new : State) : Type 0 where
+pub record FollowsInside (r : Remembered) (c : Call) (reply : Reply) (later : Remembered) (old new : State) : Type 0 where
   pub turned : Turns desk_layout (before r) (after r c) old new
-  pub answered : (p : FirstPast r) → Sees desk_layout old (before r p) → IsFollowed c followed p
+  pub answered : (p : FirstPast r) → Sees desk_layout old (before r p) → IsFollowed c reply later p
 
--- it is followed inside a transaction, or isn't accepted
-abbrev pub ActsFirst : Remembered → Call → Option Followed → State → State → Type 0
-ActsFirst r c (Some followed) old new = FollowsInside r c followed old new
-ActsFirst r c None old new = (p : FirstPast r) → Sees desk_layout old (before r p) → IsNotAccepted c p
+-- it is followed inside a transaction, or isn't accepted with this reply
+abbrev pub ActsFirst : Remembered → Call → Reply → Option Remembered → State → State → Type 0
+ActsFirst r c reply (Some later) old new = FollowsInside r c reply later old new
+ActsFirst r c reply None old new = (p : FirstPast r) → Sees desk_layout old (before r p) → IsOther c reply p
 
--- the same for the connection outside, which is open after an accepted call
-pub record FollowsOutside (r : Remembered) (c : Call) (followed : Followed) (old new : State) : Type 0 where
+-- the same for the connection outside, which is open after a call that was followed
+pub record FollowsOutside (r : Remembered) (c : Call) (reply : Reply) (later : Remembered) (old new : State) : Type 0 where
   pub is_open : IsTrue new.is_open
-  pub answered : (p : FirstPast r) → ShowsHistory old p.owner p.calls → IsFollowed c followed p
+  pub answered : (p : FirstPast r) → ShowsHistory old p.owner p.calls → IsFollowed c reply later p
   pub shown : (p : FirstPast r) → ShowsHistory old p.owner p.calls → ShowsHistory new p.owner (under First c ∷ p.calls)
 
--- it is followed, or isn't accepted
-abbrev pub RunsFirst : Remembered → Call → Option Followed → State → State → Type 0
-RunsFirst r c (Some followed) old new = FollowsOutside r c followed old new
-RunsFirst r c None old new = (p : FirstPast r) → ShowsHistory old p.owner p.calls → IsNotAccepted c p
+-- it is followed, or isn't accepted with this reply
+abbrev pub RunsFirst : Remembered → Call → Reply → Option Remembered → State → State → Type 0
+RunsFirst r c reply (Some later) old new = FollowsOutside r c reply later old new
+RunsFirst r c reply None old new = (p : FirstPast r) → ShowsHistory old p.owner p.calls → IsOther c reply p
+
+-- only a call that is followed leaves anything else: the next history's tables
+abbrev pub LeavesFollowed : State → Remembered → Call → Reply → Trees → Type 0
+LeavesFollowed old r c reply db =
+    (p : FirstPast r) → ShowsHistory old p.owner p.calls
+    → (ruling p.calls (under First c) ≡ Accepted reply) × HoldsHistory db p.owner (under First c ∷ p.calls)

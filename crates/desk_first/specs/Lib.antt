@@ -1,3 +1,4 @@
 pub mod Desks
 pub mod Acts
+pub mod Pasts
 pub mod Steps

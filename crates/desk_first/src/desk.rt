@@ -1,13 +1,18 @@
 //! A store that follows calls by the first rules.
-ghost use Rattle.std.specs.Prelude.{◌≡◌, ℕ, List, [], IfErr, IfNone, IfOk, IfSome, false};
+ghost use Rattle.std.specs.Prelude.{◌≡◌, ℕ, List, [], IfErr, IfOk, false, true};
 ghost use Rattle.sqlite.specs.Held.{state};
 ghost use Rattle.sqlite.specs.State.{HasCleanDisk};
 ghost use Rattle.desk_history.specs.Calls.{History};
+ghost use Rattle.desk_history.specs.Formed.{IsHistory};
+ghost use Rattle.store_schema.specs.rows.Histories.{LeavesHistory, ShowsHistory};
 ghost use Rattle.store_reads.specs.Failures.{IsFailure};
+ghost use Rattle.store_sql.specs.States.{Spares};
 ghost use Rattle.desk_store.specs.Desks.{ShowsDesk};
-ghost use Rattle.desk_first.specs.Desks.{AcceptsFirst, AcceptsNoneFirst, ShowsFirstDesk};
+ghost use Rattle.desk_first.specs.Desks.{AcceptsFirst, GivesOther, IsResumed, KeepsFirst};
+ghost use Rattle.desk_first.specs.Desks.{MayStopFirst, ShowsFirstDesk, WasClean};
 
 use crate::acting::run;
+use crate::past::past;
 use desk_bytes::Refusal;
 use desk_rules::CallRef;
 use desk_store::Desk;
@@ -25,6 +30,48 @@ pub struct FirstDesk<S: Alter> {
     alloc: Global,
     conn: Connection<S>,
     remembered: Remembered,
+}
+
+/// A desk that goes on by the rules of its calls.
+#[derive(Drop)]
+pub enum Resumed<S: Alter> {
+    /// By the first, by which all its calls were accepted.
+    First(FirstDesk<S>),
+    /// By the second, by which one of its calls was accepted.
+    Second(Desk<S>),
+}
+
+/// The desk of a connection. A refusal returns it.
+///
+/// `NoMemory`: memory was refused. `Store`: the store failed, or isn't as a desk left it.
+fn opened<S: Alter + Drop>(
+    alloc: Global,
+    conn: Connection<S>,
+) -> Result<Desk<S>, (Refusal, Connection<S>)>
+    ensures shown { IfOk result (λ desk. HasCleanDisk (state S.Store desk.conn)
+        → (owner : List ℕ) (cs : History) → IsHistory cs
+        → ShowsHistory (state S.Store conn) owner cs
+        → LeavesHistory (state S.Store conn) owner cs
+        → ShowsDesk S.Store desk owner cs) }
+    ensures usable { IfOk result (λ desk. desk.needs_reopening ≡ false) }
+    ensures clean { IfOk result (λ desk. HasCleanDisk (state S.Store desk.conn)
+        → HasCleanDisk (state S.Store conn)) }
+    ensures spares { IfOk result (λ desk. (owner : List ℕ) (cs : History)
+        → ShowsHistory (state S.Store conn) owner cs → Spares S.Store conn desk.conn) }
+    ensures spared { IfErr result (λ e. (owner : List ℕ) (cs : History)
+        → ShowsHistory (state S.Store conn) owner cs → Spares S.Store conn e.1) }
+    ensures cleared { IfErr result (λ e. HasCleanDisk (state S.Store e.1)
+        → HasCleanDisk (state S.Store conn)) }
+    ensures named { IfErr result (λ e. IsFailure e.0) }
+{
+    if !conn.is_autocommit() {
+        return Err((Refusal::Store, conn));
+    }
+    match Desk::open(alloc, conn) {
+        Ok(desk) => Ok(desk),
+        Err((Refusal::NoMemory, conn)) => Err((Refusal::NoMemory, conn)),
+        Err((_, conn)) => Err((Refusal::Store, conn)),
+    }
 }
 
 impl<S: Alter + Drop> FirstDesk<S> {
@@ -46,16 +93,47 @@ impl<S: Alter + Drop> FirstDesk<S> {
         }
     }
 
-    /// The reply to a call that is accepted by the first rules, which joins the history. `None`: it
-    /// repeats a call, or the rules refuse it. After `None` or a refusal nothing is promised of
-    /// what the store shows. Takes memory.
+    /// The same desk, which goes on by the first rules if all its calls were accepted by them, and
+    /// by the second otherwise. Nothing is committed; a refusal returns the connection. Each counted
+    /// table is counted.
     ///
-    /// `NoMemory`: memory was refused. `Store`: the store failed.
-    pub fn follow(&mut self, call: &Call) -> Result<Option<Reply>, Refusal>
-        ensures accepted { HasCleanDisk (state S.Store self.new.conn) → IfOk result (λ given.
-            IfSome given (AcceptsFirst S.Store self.old self.new call.now)) }
-        ensures other { HasCleanDisk (state S.Store self.new.conn) → IfOk result (λ given.
-            IfNone given (AcceptsNoneFirst S.Store self.old call.now)) }
+    /// `NoMemory`: memory was refused. `Store`: the store failed, or isn't as a desk left it.
+    pub fn resume(alloc: Global, desk: Desk<S>) -> Result<Resumed<S>, (Refusal, Connection<S>)>
+        ensures shown { IfOk result (IsResumed S.Store desk) }
+        ensures left { IfErr result (λ e. (owner : List ℕ) (cs : History)
+            → ShowsDesk S.Store desk owner cs → LeavesHistory (state S.Store e.1) owner cs) }
+        ensures clean { IfOk result (WasClean S.Store desk) }
+        ensures cleared { IfErr result (λ e. HasCleanDisk (state S.Store e.1)
+            → HasCleanDisk (state S.Store desk.conn)) }
+        ensures named { IfErr result (λ e. IsFailure e.0) }
+    {
+        let mut conn = desk.release();
+        match past(&mut conn) {
+            Ok(Some(remembered)) => Ok(Resumed::First(FirstDesk {
+                alloc,
+                conn,
+                remembered,
+            })),
+            Ok(None) => match opened(alloc, conn) {
+                Ok(desk) => Ok(Resumed::Second(desk)),
+                Err(refused) => Err(refused),
+            },
+            Err(refusal) => Err((refusal, conn)),
+        }
+    }
+
+    /// Whether the call is accepted by the first rules with this reply; then it joins the history.
+    /// Otherwise nothing is committed. Takes memory.
+    ///
+    /// `NoMemory`: memory was refused. `Store`: the store failed. After either nothing is promised
+    /// of what the store shows.
+    pub fn follow(&mut self, call: &Call, told: &Reply) -> Result<bool, Refusal>
+        ensures joined { HasCleanDisk (state S.Store self.new.conn) → IfOk result (λ is. is ≡ true
+            → AcceptsFirst S.Store self.old self.new call.now told.now) }
+        ensures other { HasCleanDisk (state S.Store self.new.conn) → IfOk result (λ is. is ≡ false
+            → GivesOther S.Store self.old call.now told.now
+            × KeepsFirst S.Store self.old self.new) }
+        ensures stopped { MayStopFirst S.Store self.old self.new call.now told.now }
         ensures clean { HasCleanDisk (state S.Store self.new.conn)
             → HasCleanDisk (state S.Store self.old.conn) }
         ensures named { IfErr result IsFailure }
@@ -66,37 +144,45 @@ impl<S: Alter + Drop> FirstDesk<S> {
             key: &call.key,
             command: &call.command,
         };
-        match run(self.alloc, &mut self.conn, &self.remembered, &parts) {
-            Ok(Some(followed)) => {
+        match run(self.alloc, &mut self.conn, &self.remembered, &parts, told) {
+            Ok(Some(later)) => {
                 stop_leaves_what_is_shown(&self.conn);
-                self.remembered = followed.remembered;
-                Ok(Some(followed.reply))
+                self.remembered = later;
+                Ok(true)
             }
-            Ok(None) => Ok(None),
+            Ok(None) => Ok(false),
             Err(refusal) => Err(refusal),
         }
     }
 
-    /// The desk, which goes on by the second rules. Takes memory.
+    /// The desk, which goes on by the second rules. A refusal returns the connection. Takes memory.
     ///
     /// `NoMemory`: memory was refused. `Store`: the store failed, or isn't as a desk left it.
-    pub fn into_desk(self) -> Result<Desk<S>, Refusal>
+    pub fn into_desk(self) -> Result<Desk<S>, (Refusal, Connection<S>)>
         ensures shown { IfOk result (λ desk. HasCleanDisk (state S.Store desk.conn)
             → (owner : List ℕ) (cs : History) → ShowsFirstDesk S.Store self owner cs
             → ShowsDesk S.Store desk owner cs) }
         ensures usable { IfOk result (λ desk. desk.needs_reopening ≡ false) }
         ensures clean { IfOk result (λ desk. HasCleanDisk (state S.Store desk.conn)
             → HasCleanDisk (state S.Store self.conn)) }
-        ensures named { IfErr result IsFailure }
+        ensures spared { IfErr result (λ e. (owner : List ℕ) (cs : History)
+            → ShowsFirstDesk S.Store self owner cs → Spares S.Store self.conn e.1) }
+        ensures cleared { IfErr result (λ e. HasCleanDisk (state S.Store e.1)
+            → HasCleanDisk (state S.Store self.conn)) }
+        ensures named { IfErr result (λ e. IsFailure e.0) }
     {
         let FirstDesk { alloc, conn, .. } = self;
-        if !conn.is_autocommit() {
-            return Err(Refusal::Store);
-        }
-        match Desk::open(alloc, conn) {
+        match opened(alloc, conn) {
             Ok(desk) => Ok(desk),
-            Err((Refusal::NoMemory, _)) => Err(Refusal::NoMemory),
-            Err(_) => Err(Refusal::Store),
+            Err(refused) => Err(refused),
         }
+    }
+
+    /// The connection, in whatever state it is.
+    pub fn release(self) -> Connection<S>
+        ensures { result ≡ self.conn }
+    {
+        let FirstDesk { conn, .. } = self;
+        conn
     }
 }

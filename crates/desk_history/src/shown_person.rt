@@ -1,4 +1,4 @@
-//! People as an officer is shown them.
+//! People as an officer is shown them, and everybody themselves.
 use desk_texts::{PersonName, Role};
 
 /// A person, without the SHA-256 of the token.

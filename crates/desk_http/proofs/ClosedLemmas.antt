@@ -12,9 +12,9 @@ use Rattle.http_responses.specs.declared.outage.Outage.{Outage}
 use Rattle.http_responses.specs.declared.outage.Outage.TheVariants as outage
 use Rattle.http_responses.specs.declared.refused.Refused.{Refused as Refusing}
 use Rattle.http_responses.specs.declared.refused.Refused.TheVariants as refused
-use Rattle.desk_calls.specs.Answers.{IsClosed}
+use Rattle.desk_calls.specs.Answers.{GivesNothing, IsClosed, no_memory, reopened}
 use Rattle.desk_calls.specs.declared.answers.Answer.{Answer}
-use Rattle.desk_calls.specs.declared.answers.Answer.TheVariants.{Refused}
+use Rattle.desk_calls.specs.declared.answers.Answer.TheVariants.{Refused, Unavailable}
 use Rattle.desk_http.specs.Asked.{Asks, Due, due_of}
 use Rattle.desk_http.specs.Refused.{refused_by_head}
 use Rattle.desk_http.specs.Sending.{Replaces}
@@ -105,35 +105,26 @@ pub closed_due : (input : Option (List ℕ)) (due : Due) (a : Answer) (stays : T
     → IsErr due × IfSome input (λ b. (cs : History) → Asks cs b due) → IfErr due (λ refused. (a ≡ Refused refused) × stays)
     → TellsClosed input a × stays
 closed_due input (Ok call) a stays known told = absurd (let no : ⊥ = (let h = known.0 in cc) in no)
-closed_due None (Err x) a stays known told = (record { refusal = (x, told.0); closed = tt }, told.1)
+closed_due None (Err x) a stays known told = (record { nothing = subst GivesNothing (sym told.0) tt; closed = tt }, told.1)
 closed_due (Some b) (Err x) a stays known told = (
   record {
-    refusal = (x, told.0);
+    nothing = subst GivesNothing (sym told.0) tt;
     closed = inr (inr (λ owner cs. record { due = Err x; asked = known.1 cs; answered = (told.0, refl) }));
   },
   told.1,
 )
 
 -- an outage of a desk that has failed
-pub closed_outage : (input : Option (List ℕ)) (o : Outage) → IsOfClosed (unread.Outage o) → TellsClosed input (Refused (refused.Unavailable o))
-closed_outage input outage.NoMemory h = record {
-  refusal = (refused.Unavailable outage.NoMemory, refl);
-  closed = known input (Refused (refused.Unavailable outage.NoMemory)) (λ b. inr (inl refl));
-}
+pub closed_outage : (input : Option (List ℕ)) (o : Outage) → IsOfClosed (unread.Outage o) → TellsClosed input (Unavailable o)
+closed_outage input outage.NoMemory h = record { nothing = tt; closed = known input no_memory (λ b. inr (inl refl)) }
 closed_outage input outage.Store h = absurd h
-closed_outage input outage.Reopen h = record {
-  refusal = (refused.Unavailable outage.Reopen, refl);
-  closed = known input (Refused (refused.Unavailable outage.Reopen)) (λ b. inl refl);
-}
+closed_outage input outage.Reopen h = record { nothing = tt; closed = known input reopened (λ b. inl refl) }
 closed_outage input outage.NotADesk h = absurd h
 
 -- the answer that is sent for this one
 told_closed : (input : Option (List ℕ)) (a told : Answer) → TellsClosed input a → Replaces a told → TellsClosed input told
 told_closed input a told closed (inl e) = subst (TellsClosed input) (sym e) closed
-told_closed input a told closed (inr x) = record {
-  refusal = (refused.Unavailable outage.NoMemory, x.0);
-  closed = known input told (λ b. inr (inl x.0));
-}
+told_closed input a told closed (inr x) = record { nothing = subst GivesNothing (sym x.0) tt; closed = known input told (λ b. inr (inl x.0)) }
 
 -- the response of a desk that has failed, as it went out
 pub responds_closed : (input before after : Option (List ℕ)) (a : Answer) (r : Result Served HttpFault)

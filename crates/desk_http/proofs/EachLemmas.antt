@@ -7,7 +7,7 @@ use Rattle.desk_calls.specs.Answers.{no_memory, store_failed}
 use Rattle.desk_calls.specs.Desks.{ForEachShown}
 use Rattle.desk_calls.specs.declared.answers.Answer.{Answer}
 use Rattle.desk_http.specs.Each.{RespondsTo, RespondsToEach, ServesEach, ServesNext, has_failed}
-use Rattle.desk_http.specs.Responses.{answered_of, refused_of, response_of}
+use Rattle.desk_http.specs.Responses.{answered_of, response_of, said_of}
 use Rattle.desk_http.specs.declared.served.Answered.{Answered}
 use Rattle.desk_http.specs.Serving.{AnswersInput, IsServed, Responds, AnswersDueOrOutage}
 
@@ -27,15 +27,15 @@ one_more owner cs (x ∷ bs) b text one last later each more = (
   one_more owner each.2 bs b each.1 one last later each.5 more,
 )
 
-not_failed : (a told : Answer) (answered : Answered) → told ≡ a → answered ≡ answered_of told → has_failed (refused_of a) ≡ true
-    → has_failed answered.refused ≡ false → ⊥
+not_failed : (a told : Answer) (answered : Answered) → told ≡ a → answered ≡ answered_of told → has_failed (said_of a) ≡ true
+    → has_failed answered.said ≡ false → ⊥
 not_failed a told answered same says known own =
-    let e : answered.refused ≡ refused_of a = ap (λ (x : Answered). x.refused) says ∙ ap refused_of same in
-    let both : has_failed (refused_of a) ≡ false = rw e at own in cc
+    let e : answered.said ≡ said_of a = ap (λ (x : Answered). x.said) says ∙ ap said_of same in
+    let both : has_failed (said_of a) ≡ false = rw e at own in cc
 
 -- an answer whose response doesn't say that memory or the store failed is due
 pub due_is_told : (shows : History → Type 0) (failed : Type 0) (cs : History) (due : Answer → History → Type 0) (told : Answer) (answered : Answered)
-    → answered ≡ answered_of told → has_failed answered.refused ≡ false → AnswersDueOrOutage shows failed cs due told → IsServed shows due told
+    → answered ≡ answered_of told → has_failed answered.said ≡ false → AnswersDueOrOutage shows failed cs due told → IsServed shows due told
 due_is_told shows failed cs due told answered says own (inl served) = served
 due_is_told shows failed cs due told answered says own (inr (inl x)) = absurd (not_failed no_memory told answered x.0 says refl own)
 due_is_told shows failed cs due told answered says own (inr (inr e)) = absurd (not_failed store_failed told answered e.0 says refl own)
@@ -56,7 +56,7 @@ appends_more (Some os) (Some ms) (Some ns) xs ys a b = rw (b, a) (append_assoc o
 -- the next input was answered
 pub next_is_served : (b : List ℕ) (before after : Option (List ℕ)) (old new : List ℕ → History → Type 0) (failed : Type 0) (answered : Answered)
     → ForEachShown old (λ owner cs. (told : Answer) × Responds before after told answered × AnswersDueOrOutage (new owner) failed cs (AnswersInput owner cs b) told)
-    → has_failed answered.refused ≡ false → ServesNext old new before after b
+    → has_failed answered.said ≡ false → ServesNext old new before after b
 next_is_served b before after old new failed answered told own = λ owner cs shown.
     let at = told owner cs shown in
     let served = due_is_told (new owner) failed cs (AnswersInput owner cs b) at.0 answered at.1.says own at.2 in

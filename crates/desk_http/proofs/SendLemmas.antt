@@ -1,17 +1,13 @@
 -- The bytes that went out, and the answer that they carry.
-use Rattle.std.proofs.Common.{◌≡◌, ◌∙◌, ℕ, List, false, sym, ap, subst, Option, Some, None, Result, Ok, Err, IfSome, MatchOption, MatchResult}
+use Rattle.std.proofs.Common.{◌≡◌, ◌∙◌, ℕ, List, sym, Option, Some, None, Result, Ok, Err, IfSome, MatchResult}
 use Rattle.std.specs.Io.KnownBytes.{Appends}
 use Rattle.desk_bytes.specs.Output.{AppendsBeginning}
 use Rattle.desk_history.specs.Calls.{History}
-use Rattle.http_responses.specs.declared.outage.Outage.{Outage}
-use Rattle.http_responses.specs.declared.refused.Refused.{Refused as Refusal}
-use Rattle.http_responses.specs.declared.refused.Refused.TheVariants.{Unavailable}
 use Rattle.desk_calls.specs.Answers.{Serves}
 use Rattle.desk_calls.specs.Desks.{ForEachShown}
 use Rattle.desk_calls.specs.declared.answers.Answer.{Answer}
-use Rattle.desk_calls.specs.declared.answers.Answer.TheVariants.{Refused}
 use Rattle.desk_http.specs.Responses.{answered_of, response_of}
-use Rattle.desk_http.specs.Sending.{Replaces, Sends, is_outage}
+use Rattle.desk_http.specs.Sending.{Replaces, Sends}
 use Rattle.desk_http.specs.Serving.{AnswersInput, Responds, AnswersDueOrOutage, WhenAnswered, WhenUnwritten}
 use Rattle.desk_http.specs.declared.served.Answered as said
 use Rattle.desk_http.specs.declared.served.HttpFault.{HttpFault}
@@ -19,19 +15,6 @@ use Rattle.desk_http.specs.declared.served.HttpFault.TheVariants.{Read, Write, N
 use Rattle.desk_http.specs.declared.served.Served.{Served}
 use Rattle.desk_http.specs.declared.served.Served.TheVariants.{Answered, Nothing}
 use Rattle.desk_http.proofs.TellLemmas.{told_is_served}
-
--- ---- the outage that an answer reports
-
--- the answer's refusal, as the answer itself shows it
-abbrev IsRefusalOf : Answer → Option Refusal → Type 0
-IsRefusalOf a r = MatchOption r (is_outage a ≡ false) (λ known. a ≡ Refused known)
-
-pub is_reported : (a : Answer) (r : Option Refusal) (outage : Outage) → IsRefusalOf a r → r ≡ Some (Unavailable outage) → a ≡ Refused (Unavailable outage)
-is_reported a r outage is reports = subst (IsRefusalOf a) reports is
-
-pub is_no_outage : (a : Answer) (r : Option Refusal) → IsRefusalOf a r → IfSome r (λ known. is_outage (Refused known) ≡ false) → is_outage a ≡ false
-is_no_outage a None own none = own
-is_no_outage a (Some known) is none = ap is_outage is ∙ none
 
 -- ---- what is sent for an answer
 

@@ -1,25 +1,27 @@
 -- Answers that say that the store failed.
-use Rattle.std.proofs.Common.{◌≡◌, ◌∙◌, inl, inr, sym, ap, Option, None, Some, List, ℕ, Result, Ok, Err}
+use Rattle.std.proofs.Common.{◌≡◌, ◌∙◌, inl, inr, sym, ap, Option, List, ℕ, Result, Ok, Err}
 use Rattle.http_responses.specs.declared.outage.Outage.TheVariants as outage
-use Rattle.http_responses.specs.declared.refused.Refused as refusing
-use Rattle.http_responses.specs.declared.refused.Refused.TheVariants as refused
 use Rattle.desk_calls.specs.Answers.{no_memory, store_failed}
 use Rattle.desk_calls.specs.declared.answers.Answer.{Answer}
 use Rattle.desk_calls.specs.declared.answers.Answer.TheVariants as answer
-use Rattle.desk_http.specs.Responses.{refused_of}
+use Rattle.desk_http.specs.Responses.{said_of}
 use Rattle.desk_http.specs.Serving.{FailsFirst}
-use Rattle.desk_http.specs.declared.served.Answered as said
+use Rattle.desk_http.specs.declared.served.Answered as answering
 use Rattle.desk_http.specs.declared.served.HttpFault.{HttpFault}
+use Rattle.desk_http.specs.declared.served.Said.TheVariants as said
 use Rattle.desk_http.specs.declared.served.Served.{Served}
 use Rattle.desk_http.specs.declared.served.Served.TheVariants.{Answered, Nothing}
 use Rattle.desk_http.proofs.SendLemmas.{SendsFor}
 
--- only a refusal says so
-answer_of_store : (a : Answer) → refused_of a ≡ Some (refused.Unavailable outage.Store) → a ≡ store_failed
-answer_of_store (answer.Reply reply) is = let bad : ◌≡◌ {A = Option refusing.Refused} None (Some (refused.Unavailable outage.Store)) = is in cc
-answer_of_store (answer.Shown given) is = let bad : ◌≡◌ {A = Option refusing.Refused} None (Some (refused.Unavailable outage.Store)) = is in cc
-answer_of_store (answer.Verdict verdict facts) is = let bad : ◌≡◌ {A = Option refusing.Refused} None (Some (refused.Unavailable outage.Store)) = is in cc
-answer_of_store (answer.Refused x) is = let same : Some x ≡ Some (refused.Unavailable outage.Store) = is in cc
+-- only an outage says so
+answer_of_store : (a : Answer) → said_of a ≡ said.Unavailable outage.Store → a ≡ store_failed
+answer_of_store (answer.Reply reply) is = let bad : said.Given ≡ said.Unavailable outage.Store = is in cc
+answer_of_store (answer.Shown given) is = let bad : said.Given ≡ said.Unavailable outage.Store = is in cc
+answer_of_store (answer.Verdict verdict facts) is = let bad : said.Given ≡ said.Unavailable outage.Store = is in cc
+answer_of_store (answer.Facts facts) is = let bad : said.Given ≡ said.Unavailable outage.Store = is in cc
+answer_of_store (answer.Me person) is = let bad : said.Given ≡ said.Unavailable outage.Store = is in cc
+answer_of_store (answer.Refused x) is = let bad : said.Refused x ≡ said.Unavailable outage.Store = is in cc
+answer_of_store (answer.Unavailable x) is = let same : said.Unavailable x ≡ said.Unavailable outage.Store = is in cc
 
 memory_apart : no_memory ≡ store_failed → ⊥
 memory_apart e = cc
@@ -30,7 +32,7 @@ pub fails_first : (before after : Option (List ℕ)) (a : Answer) (r : Result Se
 fails_first before after a (Ok Nothing) failed fails sent = tt
 fails_first before after a (Err fault) failed fails sent = tt
 fails_first before after a (Ok (Answered answered)) failed fails sent = λ is.
-    let store : sent.0 ≡ store_failed = answer_of_store sent.0 (sym (ap (λ (x : said.Answered). x.refused) sent.2.says) ∙ is) in
+    let store : sent.0 ≡ store_failed = answer_of_store sent.0 (sym (ap (λ (x : answering.Answered). x.said) sent.2.says) ∙ is) in
     elim sent.1 [
       | inl same ↦ fails (sym same ∙ store)
       | inr memory ↦ absurd (memory_apart (sym memory.0 ∙ store))

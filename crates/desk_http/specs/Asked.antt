@@ -2,7 +2,6 @@
 use Rattle.std.specs.Prelude.{◌≡◌, ◌≢◌, ◌⊎◌, ◌≤◌, ℕ, List, [], length, IfOk, IfSome, Option, Some, None, Result, Ok, Err}
 use Rattle.httparse.specs.Grammar.{RequestHead}
 use Rattle.sha2.specs.Sha256.{sha256}
-use Rattle.desk_exports.specs.declared.reading.Reading.{Reading}
 use Rattle.desk_history.specs.Calls.{History}
 use Rattle.desk_texts.specs.declared.command.Person.{Person}
 use Rattle.http_requests.specs.heads.Fields.{parts_of}
@@ -11,6 +10,8 @@ use Rattle.http_requests.specs.Asked.{read_at, image_at, keyed_at}
 use Rattle.http_requests.specs.Wanted.{Want, wanted_of}
 use Rattle.http_requests.specs.declared.ask.ImageAsked.{ImageAsked}
 use Rattle.http_requests.specs.declared.ask.KeyedAsked.{KeyedAsked}
+use Rattle.http_requests.specs.declared.ask.ReadAsked.{ReadAsked}
+use Rattle.http_requests.specs.declared.ask.ReadAsked.TheVariants.{Desk, Me}
 use Rattle.http_requests.specs.declared.fault.AskedFault.{AskedFault}
 use Rattle.http_requests.specs.declared.fault.WantedFault.{WantedFault}
 use Rattle.http_requests.specs.declared.route.PostRoute.TheVariants.{Image, Command}
@@ -40,9 +41,10 @@ abbrev pub call_for : Person → Task → Due
 call_for p task = Ok (record { person = p; task = task })
 
 -- a person's read, by the request's fields
-abbrev pub of_read : Person → Result Reading AskedFault → Due
+abbrev pub of_read : Person → Result ReadAsked AskedFault → Due
 of_read p (Err fault) = Err (refused_by_fields fault)
-of_read p (Ok asked) = call_for p (task.Read asked)
+of_read p (Ok (Desk reading)) = call_for p (task.Read reading)
+of_read p (Ok Me) = call_for p task.Me
 
 -- a person's request with an image, by its fields
 abbrev pub of_image : Person → List ℕ → Result ImageAsked AskedFault → Due

@@ -1,14 +1,14 @@
 -- own: the responses to inputs that come one after another.
-use Rattle.std.specs.Prelude.{◌≡◌, ◌⊎◌, ℕ, Bool, true, false, List, [], ◌∷◌, ◌++◌, Option, Some}
+use Rattle.std.specs.Prelude.{◌≡◌, ◌⊎◌, ℕ, Bool, true, false, List, [], ◌∷◌, ◌++◌, Option}
 use Rattle.std.specs.Io.KnownBytes.{Appends}
 use Rattle.desk_history.specs.Calls.{History}
 use Rattle.http_responses.specs.declared.outage.Outage.TheVariants as outage
-use Rattle.http_responses.specs.declared.refused.Refused.{Refused}
-use Rattle.http_responses.specs.declared.refused.Refused.TheVariants as refused
 use Rattle.desk_calls.specs.Desks.{ForEachShown}
 use Rattle.desk_calls.specs.declared.answers.Answer.{Answer}
 use Rattle.desk_http.specs.Responses.{response_of}
 use Rattle.desk_http.specs.Serving.{AnswersInput}
+use Rattle.desk_http.specs.declared.served.Said.{Said}
+use Rattle.desk_http.specs.declared.served.Said.TheVariants as said
 
 -- the response to an input at this history, and the history after it; an input without bytes isn't
 -- a request
@@ -24,10 +24,10 @@ RespondsToEach owner cs (b ∷ bs) text last =
     (one : List ℕ) × (rest : List ℕ) × (later : History)
     × RespondsTo owner cs b one later × (text ≡ one ++ rest) × RespondsToEach owner later bs rest last
 
--- the request is refused because memory or the store failed
-abbrev pub has_failed : Option Refused → Bool
-has_failed (Some (refused.Unavailable outage.NoMemory)) = true
-has_failed (Some (refused.Unavailable outage.Store)) = true
+-- the request has no answer because memory or the store failed
+abbrev pub has_failed : Said → Bool
+has_failed (said.Unavailable outage.NoMemory) = true
+has_failed (said.Unavailable outage.Store) = true
 has_failed _ = false
 
 -- the desk answered inputs one after another, and their responses were written

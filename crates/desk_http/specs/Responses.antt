@@ -6,8 +6,9 @@ use Rattle.serde_json.specs.Written.{compact_text}
 use Rattle.desk_exports.specs.declared.shown.Shown.{Shown}
 use Rattle.desk_exports.specs.declared.shown.Shown.TheVariants as shown
 use Rattle.desk_texts.specs.declared.shown.ShownRequest.{ShownRequest}
+use Rattle.http_responses.specs.json.Facts.{facts_data}
 use Rattle.http_responses.specs.json.Impacts.{impact_data}
-use Rattle.http_responses.specs.json.People.{people_data}
+use Rattle.http_responses.specs.json.People.{people_data, person_data}
 use Rattle.http_responses.specs.json.Proposals.{proposals_data}
 use Rattle.http_responses.specs.json.Replies.{reply_data}
 use Rattle.http_responses.specs.json.Requests.{request_data, requests_data}
@@ -17,19 +18,23 @@ use Rattle.http_responses.specs.Refusals as refusals
 use Rattle.http_responses.specs.Responses.{response_text}
 use Rattle.http_responses.specs.declared.content.Content.{Content}
 use Rattle.http_responses.specs.declared.content.Content.TheVariants as content
-use Rattle.http_responses.specs.declared.refused.Refused.{Refused as Refusal}
 use Rattle.http_responses.specs.declared.status.Status.{Status}
 use Rattle.http_responses.specs.declared.status.Status.TheVariants as status
 use Rattle.desk_calls.specs.declared.answers.Answer.{Answer}
 use Rattle.desk_calls.specs.declared.answers.Answer.TheVariants as answer
 use Rattle.desk_http.specs.declared.served.Answered.{Answered}
+use Rattle.desk_http.specs.declared.served.Said.{Said}
+use Rattle.desk_http.specs.declared.served.Said.TheVariants as said
 
--- its status: 200 unless it is a refusal (RFC 9110, section 15.3.1)
+-- its status: 200 unless it is a refusal (RFC 9110, section 15.3.1) or an outage (section 15.6.4)
 abbrev pub status_of : Answer → Status
 status_of (answer.Reply reply) = status.Ok
 status_of (answer.Shown given) = status.Ok
 status_of (answer.Verdict verdict facts) = status.Ok
+status_of (answer.Facts facts) = status.Ok
+status_of (answer.Me person) = status.Ok
 status_of (answer.Refused refused) = refusals.status_of refused
+status_of (answer.Unavailable outage) = status.ServiceUnavailable
 
 -- what is shown has this content
 abbrev pub content_shown : Shown (List ShownRequest) → Content
@@ -50,7 +55,10 @@ abbrev pub content_of : Answer → Content
 content_of (answer.Reply reply) = content.Json
 content_of (answer.Shown given) = content_shown given
 content_of (answer.Verdict verdict facts) = content.Json
+content_of (answer.Facts facts) = content.Json
+content_of (answer.Me person) = content.Json
 content_of (answer.Refused refused) = content.Json
+content_of (answer.Unavailable outage) = content.Json
 
 -- the text of a JSON value, if there is one
 abbrev pub text_or_none : Option Data → List ℕ
@@ -82,19 +90,25 @@ abbrev pub body_of : Answer → List ℕ
 body_of (answer.Reply reply) = text_or_none (reply_data reply)
 body_of (answer.Shown given) = body_shown given
 body_of (answer.Verdict verdict facts) = text_or_none (verdict_data facts.components verdict)
+body_of (answer.Facts facts) = compact_text (facts_data facts)
+body_of (answer.Me person) = compact_text (person_data person)
 body_of (answer.Refused refused) = compact_text (refusals.refused_data refused)
+body_of (answer.Unavailable outage) = compact_text (refusals.outage_data outage)
 
 -- the whole response
 abbrev pub response_of : Answer → List ℕ
 response_of a = response_text (status_of a) (content_of a) (body_of a)
 
--- the refusal of the request, if it is refused
-abbrev pub refused_of : Answer → Option Refusal
-refused_of (answer.Reply reply) = None
-refused_of (answer.Shown given) = None
-refused_of (answer.Verdict verdict facts) = None
-refused_of (answer.Refused refused) = Some refused
+-- what became of the request
+abbrev pub said_of : Answer → Said
+said_of (answer.Reply reply) = said.Given
+said_of (answer.Shown given) = said.Given
+said_of (answer.Verdict verdict facts) = said.Given
+said_of (answer.Facts facts) = said.Given
+said_of (answer.Me person) = said.Given
+said_of (answer.Refused refused) = said.Refused refused
+said_of (answer.Unavailable outage) = said.Unavailable outage
 
--- the outcome in its response: the status, and the refusal of the request
+-- the outcome in its response: the status, and what became of the request
 abbrev pub answered_of : Answer → Answered
-answered_of a = record { status = status_of a; refused = refused_of a }
+answered_of a = record { status = status_of a; said = said_of a }

@@ -1,7 +1,6 @@
 -- own: the effect of sending an answer's response on a writer.
 use Rattle.std.specs.Prelude.{◌≡◌, ◌⊎◌, ℕ, List, Bool, true, false, Option, Result, Ok, Err}
 use Rattle.desk_bytes.specs.Output.{AppendsBeginning}
-use Rattle.http_responses.specs.declared.refused.Refused.TheVariants as refused
 use Rattle.desk_calls.specs.Answers.{no_memory}
 use Rattle.desk_calls.specs.declared.answers.Answer.{Answer}
 use Rattle.desk_calls.specs.declared.answers.Answer.TheVariants as answer
@@ -22,7 +21,7 @@ Sends old new told (Err NoMemory) = ⊥
 
 -- the answer says that the desk can answer nothing
 abbrev pub is_outage : Answer → Bool
-is_outage (answer.Refused (refused.Unavailable outage)) = true
+is_outage (answer.Unavailable outage) = true
 is_outage _ = false
 
 -- the answer itself is sent, or, unless it is an outage, NoMemory instead

@@ -1,12 +1,10 @@
 -- own: the service of one connection, and the history that the desk shows after it.
-use Rattle.std.specs.Prelude.{◌≡◌, ◌⊎◌, ℕ, List, [], Option, Some, Result, Ok, Err, IfSome, ⊤}
+use Rattle.std.specs.Prelude.{◌≡◌, ◌⊎◌, ℕ, List, [], Option, Result, Ok, Err, IfSome, ⊤}
 use Rattle.std.specs.Io.KnownBytes.{Appends, Keeps}
 use Rattle.desk_bytes.specs.Output.{AppendsBeginning}
 use Rattle.http_responses.specs.declared.outage.Outage.TheVariants as outage
-use Rattle.http_responses.specs.declared.refused.Refused.{Refused as Refusal}
-use Rattle.http_responses.specs.declared.refused.Refused.TheVariants as refused
 use Rattle.desk_history.specs.Calls.{History}
-use Rattle.desk_calls.specs.Answers.{AnswersCall, IsClosed, no_memory, store_failed}
+use Rattle.desk_calls.specs.Answers.{AnswersCall, GivesNothing, IsClosed, no_memory, store_failed}
 use Rattle.desk_calls.specs.Desks.{ForEachShown, StillShows}
 use Rattle.desk_calls.specs.declared.answers.Answer.{Answer}
 use Rattle.desk_calls.specs.declared.answers.Answer.TheVariants.{Refused}
@@ -15,6 +13,7 @@ use Rattle.desk_http.specs.Responses.{answered_of, response_of}
 use Rattle.desk_http.specs.declared.served.Answered.{Answered}
 use Rattle.desk_http.specs.declared.served.HttpFault.{HttpFault}
 use Rattle.desk_http.specs.declared.served.HttpFault.TheVariants as fault
+use Rattle.desk_http.specs.declared.served.Said.TheVariants as said
 use Rattle.desk_http.specs.declared.served.Served.{Served}
 use Rattle.desk_http.specs.declared.served.Served.TheVariants as served
 
@@ -45,7 +44,7 @@ AnswersDueOrOutage shows failed cs due told =
     ⊎ (((told ≡ no_memory) × (shows cs ⊎ ((a : Answer) × IsServed shows due a)))
     ⊎ ((told ≡ store_failed) × failed))
 
--- the response to an answer was written whole, with the answer's status and refusal
+-- the response to an answer was written whole, with the answer's status and what it says
 pub record Responds (old new : Option (List ℕ)) (a : Answer) (answered : Answered) : Type 0 where
   pub written : Appends old new (response_of a)
   pub says : answered ≡ answered_of a
@@ -81,12 +80,12 @@ WhenUnwritten (Err fault.NoMemory) holds = ⊤
 
 -- whatever the desk shows: a response that the store failed comes only from a desk that has failed
 abbrev pub FailsFirst : (failed : Type 0) → Result Served HttpFault → Type 0
-FailsFirst failed result = WhenAnswered result (λ answered. answered.refused ≡ Some (refused.Unavailable outage.Store) → failed)
+FailsFirst failed result = WhenAnswered result (λ answered. answered.said ≡ said.Unavailable outage.Store → failed)
 
 -- the refusal of the input by a desk that has failed: that it must be opened again, unless memory
 -- was refused, or the refusal is due at any history
 pub record TellsClosed (input : Option (List ℕ)) (told : Answer) : Type 0 where
-  pub refusal : (refused : Refusal) × (told ≡ Refused refused)
+  pub nothing : GivesNothing told
   pub closed : IfSome input (λ b. IsClosed (λ owner cs. AnswersInput owner cs b) told)
 
 -- the response of a desk that has failed, or the prefix of it that was written, is for such a
@@ -128,7 +127,7 @@ pub record AnswersOne {D : Type 0} (shows : D → List ℕ → History → Type 
       × AnswersDueOrOutage (shows new owner) (failed new) cs (AnswersInput owner cs b) told)))
   pub some : IsOfBytes input result
   -- whatever the desk shows: the bytes that were written are the whole response to an answer, with
-  -- its status and refusal
+  -- its status and what it says
   pub response : WhenAnswered result (λ answered. (told : Answer) × Responds held holds told answered)
   pub poisons : FailsFirst (failed new) result
   -- a desk that had failed doesn't change, and refuses the input

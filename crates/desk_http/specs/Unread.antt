@@ -1,7 +1,8 @@
 -- Reasons why a request isn't known.
-use Rattle.std.specs.Prelude.{⊤, ℕ, List, Option, Some, None, Result, Ok, Err, IfSome, IsErr}
+use Rattle.std.specs.Prelude.{◌≡◌, ◌≢◌, ⊤, ℕ, List, Option, Some, None, Result, Ok, Err, IfErr, IfSome, IsErr}
 use Rattle.desk_history.specs.Calls.{History}
 use Rattle.http_responses.specs.declared.outage.Outage.TheVariants as outage
+use Rattle.desk_calls.specs.Desks.{ForEachShown, StillShows}
 use Rattle.desk_http.specs.Asked.{Asks, Due}
 use Rattle.desk_http.specs.declared.served.Unread.{Unread}
 use Rattle.desk_http.specs.declared.served.Unread.TheVariants as unread
@@ -14,6 +15,15 @@ CanCome (unread.Outage outage.NoMemory) = ⊤
 CanCome (unread.Outage outage.Store) = ⊤
 CanCome (unread.Outage outage.Reopen) = ⊥
 CanCome (unread.Outage outage.NotADesk) = ⊥
+
+-- the desk, which may be asked for the caller while a request is read
+pub record AsksSafely {D X : Type 0} (shows : D → List ℕ → History → Type 0) (clean failed : D → Type 0) (old new : D) (result : Result X Unread) : Type 0 where
+  -- except for Store it shows the same
+  pub same : clean new → result ≢ Err (unread.Outage outage.Store) → StillShows (shows old) (shows new)
+  -- a disk that is clean afterwards was clean before
+  pub before : clean new → clean old
+  pub named : ForEachShown (shows old) (λ _ _. IfErr result CanCome)
+  pub poisons : result ≡ Err (unread.Outage outage.Store) → failed new
 
 -- it comes from no desk
 abbrev pub IsOwn : Unread → Type 0

@@ -1,5 +1,5 @@
 //! Requests that have a body.
-ghost use Rattle.std.specs.Prelude.{◌≡◌, ◌≢◌, Err, IfErr, IfOk, IfSome, MatchResult, Ok};
+ghost use Rattle.std.specs.Prelude.{◌≡◌, ◌≢◌, Err, IfErr, IfOk, IfSome, MatchResult};
 ghost use Rattle.http_requests.specs.Asked as asks;
 ghost use Rattle.http_requests.specs.Wanted.{shown};
 ghost use Rattle.desk_http.specs.Asked as spec;
@@ -15,7 +15,7 @@ use crate::tasks::task_with_body;
 use desk_calls::{Call, Task};
 use desk_texts::Person;
 use http_requests::{
-    AskedFault, BodyFault, CommandRoute, GetRoute, ImageRoute, PostRoute, Route, Wanted,
+    AskedFault, BodyFault, CommandRoute, GetRoute, ImageRoute, PostRoute, ReadAsked, Route, Wanted,
     command_asked, image_asked, read_asked,
 };
 use http_responses::{Outage, Refused};
@@ -27,7 +27,6 @@ fn refuse(fault: AskedFault) -> Result<Due, Unread>
     ensures refused { MatchResult result
         (λ due. (fault ≢ AskedFault.NoMemory) × (due ≡ Err (refused_by_fields fault)))
         (λ unread. unread ≡ Unread.Outage Outage.NoMemory) }
-    ensures no_store { result ≢ Ok (Err (Refused.Unavailable Outage.Store)) }
     ensures named { IfErr result IsOwn }
     ensures cause { (intake : Reading) → IsCaused intake intake result }
 {
@@ -44,14 +43,17 @@ fn refuse(fault: AskedFault) -> Result<Due, Unread>
 fn ask_to_read(person: Person, route: GetRoute, wanted: &Wanted<'_>) -> Result<Due, Unread>
     ensures asked { IfOk result (λ due.
         due ≡ spec.of_read person (asks.read_at route (shown wanted.now))) }
-    ensures no_store { result ≢ Ok (Err (Refused.Unavailable Outage.Store)) }
     ensures named { IfErr result IsOwn }
     ensures cause { (intake : Reading) → IsCaused intake intake result }
 {
     match read_asked(route, wanted) {
-        Ok(asked) => Ok(Ok(Call {
+        Ok(ReadAsked::Desk(reading)) => Ok(Ok(Call {
             person,
-            task: Task::Read(asked),
+            task: Task::Read(reading),
+        })),
+        Ok(ReadAsked::Me) => Ok(Ok(Call {
+            person,
+            task: Task::Me,
         })),
         Err(fault) => refuse(fault),
     }
@@ -69,7 +71,6 @@ fn ask_with_image<R: Read>(
     ensures asked { IfOk result (λ due. IfSome (R.remaining reader.old) (λ rest.
         due ≡ spec.with_image person (asks.image_at route (shown wanted.now))
         (body_in wanted.now.size rest))) }
-    ensures no_store { result ≢ Ok (Err (Refused.Unavailable Outage.Store)) }
     ensures named { IfErr result IsOwn }
     ensures cause { IsCaused intake.old intake.new result }
 {
@@ -97,7 +98,6 @@ fn ask_with_body<R: Read>(
     ensures asked { IfOk result (λ due. IfSome (R.remaining reader.old) (λ rest.
         due ≡ spec.with_body person (asks.keyed_at route (shown wanted.now))
         (body_in wanted.now.size rest))) }
-    ensures no_store { result ≢ Ok (Err (Refused.Unavailable Outage.Store)) }
     ensures named { IfErr result IsOwn }
     ensures cause { IsCaused intake.old intake.new result }
 {
@@ -125,7 +125,6 @@ pub(crate) fn ask<R: Read>(
 ) -> Result<Due, Unread>
     ensures asked { IfOk result (λ due. IfSome (R.remaining reader.old) (λ rest.
         due ≡ spec.of_route person (shown wanted.now) rest wanted.now.route)) }
-    ensures no_store { result ≢ Ok (Err (Refused.Unavailable Outage.Store)) }
     ensures named { IfErr result IsOwn }
     ensures cause { IsCaused intake.old intake.new result }
 {

@@ -16,15 +16,15 @@ use std::io::Read;
 /// Reads the head and the body of an input. It remembers whether a read failed, after which it
 /// reads no more, and whether memory for what came was refused.
 #[derive(Drop)]
-pub(crate) struct Intake {
+pub struct Intake {
     watch: Watch,
     memory_refused: bool,
 }
 
 impl Intake {
     /// Before the first read.
-    pub(crate) fn new() -> Intake
-        ensures { result.memory_refused ≡ false }
+    pub fn new() -> Intake
+        ensures { (result.watch.failed ≡ false) × (result.memory_refused ≡ false) }
     {
         Intake {
             watch: Watch::new(),

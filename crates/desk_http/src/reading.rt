@@ -1,15 +1,15 @@
 //! The request of a connection, read.
-ghost use Rattle.std.specs.Prelude.{◌≡◌, ◌≢◌, ℕ, List, [], Err, None, Ok, Some, IfErr, IfOk, IfSome};
+ghost use Rattle.std.specs.Prelude.{◌≡◌, ℕ, List, [], Err, None, IfOk, IfSome};
 ghost use Rattle.std.specs.Prelude.{IsErr, MatchOption, MatchResult};
 ghost use Rattle.httparse.specs.Grammar.{ReadsRequest, RequestHead};
 ghost use Rattle.http_requests.specs.Fields.{bytes_of};
 ghost use Rattle.http_requests.specs.Wanted as wants;
-ghost use Rattle.desk_calls.specs.Desks.{StillShows, ForEachShown};
+ghost use Rattle.desk_calls.specs.Desks.{ForEachShown};
 ghost use Rattle.desk_history.specs.Calls.{History};
 ghost use Rattle.desk_http.specs.Asked as spec;
 ghost use Rattle.desk_http.specs.Intakes.{IsCaused};
 ghost use Rattle.desk_http.specs.Refused.{refused_by_head};
-ghost use Rattle.desk_http.specs.Unread.{CanCome, IsKnownOfClosed, WhenAsked};
+ghost use Rattle.desk_http.specs.Unread.{AsksSafely, IsKnownOfClosed, WhenAsked};
 ghost use Rattle.desk_http.specs.declared.intake.Intake.{Intake as Reading};
 
 use crate::asking::ask;
@@ -25,7 +25,6 @@ use std::io::Read;
 /// The refusal of a head that has this fault.
 fn refusal_of_head(fault: WantedFault) -> Refused
     ensures refused { result ≡ refused_by_head fault }
-    ensures no_store { result ≢ Refused.Unavailable Outage.Store }
 {
     match fault {
         WantedFault::NotSupported => Refused::NotSupported,
@@ -41,11 +40,7 @@ fn refusal_of_head(fault: WantedFault) -> Refused
 fn person_of<D: Answering>(desk: &mut D, token: Option<&[u8]>) -> Result<Option<Person>, Unread>
     ensures asked { D.clean desk.new → IfOk result (λ person. ForEachShown (D.shows desk.old)
         (λ _ cs. person ≡ spec.caller_of cs (bytes_of token.entry))) }
-    ensures same { D.clean desk.new → result ≢ Err (Unread.Outage Outage.Store)
-        → StillShows (D.shows desk.old) (D.shows desk.new) }
-    ensures before { D.clean desk.new → D.clean desk.old }
-    ensures named { ForEachShown (D.shows desk.old) (λ _ _. IfErr result CanCome) }
-    ensures poisons { result ≡ Err (Unread.Outage Outage.Store) → D.failed desk.new }
+    ensures desk { AsksSafely D.shows D.clean D.failed desk.old desk.new result }
     ensures closed { D.failed desk.old → (desk.new ≡ desk.old) × MatchResult result
         (λ person. (person ≡ None) × (bytes_of token.entry ≡ None))
         (λ unread. unread ≡ Unread.Outage Outage.Reopen) }
@@ -71,12 +66,7 @@ fn ask_as<D: Answering, R: Read>(
     ensures asked { D.clean desk.new → IfOk result (λ due. IfSome (R.remaining reader.old) (λ rest.
         ForEachShown (D.shows desk.old) (λ _ cs. due ≡ spec.of_caller (wants.shown wanted.now) rest
         (spec.caller_of cs (wants.shown wanted.now).token)))) }
-    ensures same { D.clean desk.new → result ≢ Err (Unread.Outage Outage.Store)
-        → StillShows (D.shows desk.old) (D.shows desk.new) }
-    ensures before { D.clean desk.new → D.clean desk.old }
-    ensures named { ForEachShown (D.shows desk.old) (λ _ _. IfErr result CanCome) }
-    ensures poisons { result ≡ Err (Unread.Outage Outage.Store) → D.failed desk.new }
-    ensures no_store { result ≢ Ok (Err (Refused.Unavailable Outage.Store)) }
+    ensures desk { AsksSafely D.shows D.clean D.failed desk.old desk.new result }
     ensures closed { D.failed desk.old → (desk.new ≡ desk.old) × MatchResult result
         (λ due. (due ≡ Err Refused.UnknownCaller) × ((wants.shown wanted.now).token ≡ None))
         (λ unread. unread ≡ Unread.Outage Outage.Reopen) }
@@ -104,12 +94,7 @@ fn ask_by_head<D: Answering, R: Read>(
     ensures asked { (h : RequestHead) (q : List ℕ) → ReadsRequest head.now h q
         → D.clean desk.new → IfOk result (λ due. IfSome (R.remaining reader.old) (λ rest.
         ForEachShown (D.shows desk.old) (λ _ cs. due ≡ spec.due_of cs h rest))) }
-    ensures same { D.clean desk.new → result ≢ Err (Unread.Outage Outage.Store)
-        → StillShows (D.shows desk.old) (D.shows desk.new) }
-    ensures before { D.clean desk.new → D.clean desk.old }
-    ensures named { ForEachShown (D.shows desk.old) (λ _ _. IfErr result CanCome) }
-    ensures poisons { result ≡ Err (Unread.Outage Outage.Store) → D.failed desk.new }
-    ensures no_store { result ≢ Ok (Err (Refused.Unavailable Outage.Store)) }
+    ensures desk { AsksSafely D.shows D.clean D.failed desk.old desk.new result }
     ensures closed { D.failed desk.old → (desk.new ≡ desk.old) × MatchResult result
         (λ due. IsErr due × ((h : RequestHead) (q : List ℕ)
         → ReadsRequest head.now h q → (cs : History) (rest : List ℕ) → due ≡ spec.due_of cs h rest))
@@ -135,12 +120,7 @@ pub(crate) fn read_due<D: Answering, R: Read>(
 ) -> Result<Option<Due>, Unread>
     ensures asked { D.clean desk.new → IfOk result (λ found. IfSome (R.remaining reader.old) (λ b.
         ForEachShown (D.shows desk.old) (λ _ cs. MatchOption found (b ≡ []) (spec.Asks cs b)))) }
-    ensures same { D.clean desk.new → result ≢ Err (Unread.Outage Outage.Store)
-        → StillShows (D.shows desk.old) (D.shows desk.new) }
-    ensures before { D.clean desk.new → D.clean desk.old }
-    ensures named { ForEachShown (D.shows desk.old) (λ _ _. IfErr result CanCome) }
-    ensures poisons { result ≡ Err (Unread.Outage Outage.Store) → D.failed desk.new }
-    ensures no_store { result ≢ Ok (Some (Err (Refused.Unavailable Outage.Store))) }
+    ensures desk { AsksSafely D.shows D.clean D.failed desk.old desk.new result }
     ensures closed { D.failed desk.old → (desk.new ≡ desk.old)
         × IsKnownOfClosed (R.remaining reader.old) result }
     ensures stranger { D.clean desk.new → WhenAsked result

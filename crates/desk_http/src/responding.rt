@@ -1,5 +1,5 @@
 //! Responses to answers.
-ghost use Rattle.std.specs.Prelude.{◌≡◌, IfOk, IfSome, MatchOption, MatchResult, Some, false};
+ghost use Rattle.std.specs.Prelude.{◌≡◌, IfOk, MatchResult};
 ghost use Rattle.std.specs.Io.KnownBytes.{Appends};
 ghost use Rattle.desk_bytes.specs.Output.{AppendsBeginning};
 ghost use Rattle.http_responses.specs.Responses.{response_text};
@@ -9,14 +9,14 @@ ghost use Rattle.desk_calls.specs.declared.answers.Answer.{Answer};
 ghost use Rattle.desk_http.specs.Responses as spec;
 ghost use Rattle.desk_http.specs.Sending as sending;
 
-use crate::{Answered, HttpFault, Served};
+use crate::{Answered, HttpFault, Said, Served};
 use desk_bytes::put;
 use desk_calls::Answer;
 use desk_exports::Shown;
 use http_responses::{
-    Content, Outage, Refused, RequestsText, Status, impact_json, outage_response, people_json,
-    proposal_json, proposals_json, refused_response, reply_json, request_json, response,
-    verdict_json,
+    Content, Outage, RequestsText, Status, facts_json, impact_json, outage_response, people_json,
+    person_json, proposal_json, proposals_json, refused_response, reply_json, request_json,
+    response, verdict_json,
 };
 use std::alloc::{AllocError, Global};
 use std::io::Write;
@@ -57,29 +57,22 @@ fn response_with(alloc: Global, shown: Shown<RequestsText>) -> Result<Vec<u8>, A
     }
 }
 
-/// The whole response to an answer. Takes memory.
-fn response_to(alloc: Global, answer: Answer) -> Result<Vec<u8>, AllocError>
-    ensures { IfOk result (λ bytes. bytes.items ≡ spec.response_of answer) }
+/// The whole response to an answer, or the outage to report: that of the answer, or NoMemory if
+/// memory for its text is refused. Takes memory.
+fn response_to(alloc: Global, answer: Answer) -> Result<Vec<u8>, Outage>
+    ensures { MatchResult result (λ bytes. bytes.items ≡ spec.response_of answer)
+        (λ outage. sending.Replaces answer (Answer.Unavailable outage)) }
 {
     match answer {
-        Answer::Reply(reply) => json_response(alloc, reply_json(alloc, &reply)?),
-        Answer::Shown(shown) => response_with(alloc, shown),
+        Answer::Reply(reply) => Ok(json_response(alloc, reply_json(alloc, &reply)?)?),
+        Answer::Shown(shown) => Ok(response_with(alloc, shown)?),
         Answer::Verdict(verdict, facts) => {
-            json_response(alloc, verdict_json(alloc, verdict, &facts)?)
+            Ok(json_response(alloc, verdict_json(alloc, verdict, &facts)?)?)
         }
-        Answer::Refused(refused) => refused_response(alloc, refused),
-    }
-}
-
-/// The outage that the refusal reports, if it reports one.
-fn outage_in(refused: Option<Refused>) -> Option<Outage>
-    ensures { MatchOption result
-        (IfSome refused (λ known. sending.is_outage (Answer.Refused known) ≡ false))
-        (λ outage. refused ≡ Some (Refused.Unavailable outage)) }
-{
-    match refused {
-        Some(Refused::Unavailable(outage)) => Some(outage),
-        Some(_) | None => None,
+        Answer::Facts(facts) => Ok(json_response(alloc, Some(facts_json(alloc, &facts)?))?),
+        Answer::Me(person) => Ok(json_response(alloc, Some(person_json(alloc, &person)?))?),
+        Answer::Refused(refused) => Ok(refused_response(alloc, refused)?),
+        Answer::Unavailable(outage) => Err(outage),
     }
 }
 
@@ -99,11 +92,11 @@ fn send<W: Write>(bytes: &[u8], says: Answered, writer: &mut W) -> Result<Served
 /// Writes the response for an outage.
 fn send_outage<W: Write>(outage: Outage, writer: &mut W) -> Result<Served, HttpFault>
     ensures { sending.Sends (W.contents writer.old) (W.contents writer.new)
-        (Answer.Refused (Refused.Unavailable outage)) result }
+        (Answer.Unavailable outage) result }
 {
     let says = Answered {
         status: Status::ServiceUnavailable,
-        refused: Some(Refused::Unavailable(outage)),
+        said: Said::Unavailable(outage),
     };
     send(outage_response(outage), says, writer)
 }
@@ -119,11 +112,8 @@ pub(crate) fn send_answer<W: Write>(
         × sending.Sends (W.contents writer.old) (W.contents writer.new) told result }
 {
     let says = Answered::of(&answer);
-    if let Some(outage) = outage_in(says.refused) {
-        return send_outage(outage, writer);
-    }
     match response_to(alloc, answer) {
         Ok(bytes) => send(&bytes, says, writer),
-        Err(_) => send_outage(Outage::NoMemory, writer),
+        Err(outage) => send_outage(outage, writer),
     }
 }

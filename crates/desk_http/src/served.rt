@@ -1,34 +1,49 @@
 //! The result of serving a connection.
-ghost use Rattle.std.specs.Prelude.{◌≡◌, MatchOption, false};
-ghost use Rattle.desk_calls.specs.declared.answers.Answer.TheVariants as Answer;
+ghost use Rattle.std.specs.Prelude.{◌≡◌};
 ghost use Rattle.desk_http.specs.Responses as spec;
-ghost use Rattle.desk_http.specs.Sending.{is_outage};
 
 use desk_calls::{Answer, Call};
 use http_responses::{Outage, Refused, Status};
 
-/// What a response says: its status, and what the request is refused for, `None` with status 200.
+/// What a response says: its status, and what became of the request.
 #[derive(Clone, Copy, Debug, PartialEq, Eq)]
 pub struct Answered {
     pub status: Status,
-    pub refused: Option<Refused>,
+    pub said: Said,
+}
+
+/// What became of a request.
+#[derive(Clone, Copy, Debug, PartialEq, Eq)]
+pub enum Said {
+    /// It has what it asks for: status 200.
+    Given,
+    /// It is refused for this.
+    Refused(Refused),
+    /// The desk can't answer: status 503.
+    Unavailable(Outage),
 }
 
 impl Answered {
     /// What the response to an answer says.
     pub(crate) fn of(answer: &Answer) -> Answered
-        ensures value { result ≡ spec.answered_of answer.now }
-        ensures refused { MatchOption result.refused (is_outage answer.now ≡ false)
-            (λ refused. answer.now ≡ Answer.Refused refused) }
+        ensures { result ≡ spec.answered_of answer.now }
     {
         match answer {
+            Answer::Reply(_)
+            | Answer::Shown(_)
+            | Answer::Verdict(_, _)
+            | Answer::Facts(_)
+            | Answer::Me(_) => Answered {
+                status: Status::Ok,
+                said: Said::Given,
+            },
             Answer::Refused(refused) => Answered {
                 status: refused.status(),
-                refused: Some(*refused),
+                said: Said::Refused(*refused),
             },
-            Answer::Reply(_) | Answer::Shown(_) | Answer::Verdict(_, _) => Answered {
-                status: Status::Ok,
-                refused: None,
+            Answer::Unavailable(outage) => Answered {
+                status: Status::ServiceUnavailable,
+                said: Said::Unavailable(*outage),
             },
         }
     }

@@ -1,5 +1,5 @@
 //! One request and its response.
-ghost use Rattle.std.specs.Prelude.{◌≡◌, ◌≢◌, [], Err, Ok, Some};
+ghost use Rattle.std.specs.Prelude.{◌≡◌, ◌≢◌, [], Ok, Some};
 ghost use Rattle.std.specs.Prelude.{IfErr, IfOk, IfSome, MatchOption, OnErr};
 ghost use Rattle.desk_calls.specs.Answers.{Serves, store_failed};
 ghost use Rattle.desk_calls.specs.Desks.{StillShows, ForEachShown};
@@ -15,7 +15,6 @@ use crate::served::{Due, Unread};
 use crate::{HttpFault, Served};
 use desk_calls::{Answer, Answering, answer};
 use http_requests::Routes;
-use http_responses::{Outage, Refused};
 use std::alloc::Global;
 use std::io::{Read, Write};
 
@@ -25,8 +24,7 @@ fn answer_due<D: Answering>(alloc: Global, desk: &mut D, due: Due) -> Answer
         Serves (D.shows desk.new owner) (D.failed desk.new) cs
         (spec.AnswersDue owner cs due) result) }
     ensures before { D.clean desk.new → D.clean desk.old }
-    ensures poisons { due ≢ Err (Refused.Unavailable Outage.Store) → result ≡ store_failed
-        → D.failed desk.new }
+    ensures poisons { result ≡ store_failed → D.failed desk.new }
     ensures refused { IfErr due (λ refused.
         (result ≡ Answer.Refused refused) × (desk.new ≡ desk.old)) }
 {
@@ -65,12 +63,19 @@ fn answer_input<D: Answering, R: Read>(
         Ok(None) => Ok(None),
         Err(Unread::Read) => Err(HttpFault::Read),
         Err(Unread::NoMemory) => Err(HttpFault::NoMemory),
-        Err(Unread::Outage(outage)) => Ok(Some(Answer::Refused(Refused::Unavailable(outage)))),
+        Err(Unread::Outage(outage)) => Ok(Some(Answer::Unavailable(outage))),
     }
 }
 
-/// Serves the request of an input, which this intake reads, as `serve_one` does.
-fn serve_input<D: Answering, R: Read, W: Write>(
+/// Serves one connection: reads a request, asks the desk, and writes the response, which is built
+/// whole before its first byte is written. Nothing after the request is read, and the body only
+/// once the caller is known. Takes memory.
+///
+/// If memory for an answer or its text is refused, the response is NoMemory, and an accepted
+/// command stays accepted. If the store fails, the response is Store; if it failed before, Reopen.
+/// Each has status 503. The intake reads the input, and remembers what a connection that ends
+/// without a response ends for.
+pub fn serve_one<D: Answering, R: Read, W: Write>(
     alloc: Global,
     routes: &Routes,
     desk: &mut D,
@@ -89,26 +94,4 @@ fn serve_input<D: Answering, R: Read, W: Write>(
         Ok(None) => Ok(Served::Nothing),
         Err(fault) => Err(fault),
     }
-}
-
-/// Serves one connection: reads a request, asks the desk, and writes the response, which is built
-/// whole before its first byte is written. Nothing after the request is read, and the body only
-/// once the caller is known. Takes memory.
-///
-/// If memory for an answer or its text is refused, the response is NoMemory, and an accepted
-/// command stays accepted. If the store fails, the response is Store; if it failed before, Reopen.
-/// Each has status 503.
-pub fn serve_one<D: Answering, R: Read, W: Write>(
-    alloc: Global,
-    routes: &Routes,
-    desk: &mut D,
-    reader: &mut R,
-    writer: &mut W,
-) -> Result<Served, HttpFault>
-    ensures serves { spec.AnswersOne D.shows D.clean D.failed (R.remaining reader.old)
-        (W.contents writer.old) (W.contents writer.new) desk.old desk.new result }
-    ensures stranger { D.clean desk.new → spec.LeavesStrangers (D.shows desk.old)
-        (R.remaining reader.old) (R.remaining reader.new) result }
-{
-    serve_input(alloc, routes, desk, reader, &mut Intake::new(), writer)
 }

@@ -2,20 +2,21 @@
 ghost use Rattle.std.specs.Prelude.{◌≡◌, ◌≤◌, IsTrue, length};
 ghost use Rattle.desk_http.specs.Each.{ServesEach, ServesNext, has_failed};
 
+use crate::intake::Intake;
 use crate::serving::serve_one;
-use crate::{Answered, Served};
+use crate::{Answered, Said, Served};
 use desk_calls::Answering;
 use desk_exports::Octets;
 use http_requests::Routes;
-use http_responses::{Outage, Refused};
+use http_responses::Outage;
 use std::alloc::Global;
 use std::io::Write;
 
 /// Whether a response says that memory or the store failed, and nothing of the request.
 fn is_failure(answered: Answered) -> bool
-    ensures { result ≡ has_failed answered.refused }
+    ensures { result ≡ has_failed answered.said }
 {
-    let Some(Refused::Unavailable(outage)) = answered.refused else {
+    let Said::Unavailable(outage) = answered.said else {
         return false;
     };
     match outage {
@@ -39,7 +40,7 @@ fn serve_next<D: Answering, W: Write>(
     ensures closed { D.failed desk.old → desk.new ≡ desk.old }
 {
     let mut reader = input;
-    match serve_one(alloc, routes, desk, &mut reader, writer) {
+    match serve_one(alloc, routes, desk, &mut reader, &mut Intake::new(), writer) {
         Ok(Served::Answered(answered)) => !is_failure(answered),
         Ok(Served::Nothing) => true,
         Err(_) => false,

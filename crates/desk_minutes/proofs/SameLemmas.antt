@@ -70,7 +70,7 @@ length_calls [] = refl
 length_calls (i ∷ cs) = ap (λ n. suc n) (length_calls cs)
 
 module _ (a b : History) (h : calls_of a ≡ calls_of b) where
-  found : {X : Type 0} (f : Call → Option X) → filter_map (λ (i : Item). f i.call) a ≡ filter_map (λ (i : Item). f i.call) b
+  pub found : {X : Type 0} (f : Call → Option X) → filter_map (λ (i : Item). f i.call) a ≡ filter_map (λ (i : Item). f i.call) b
   found f = filter_calls f a ∙ ap (filter_map f) h ∙ sym (filter_calls f b)
 
   pub length_same : length a ≡ length b

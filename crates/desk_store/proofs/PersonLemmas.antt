@@ -5,6 +5,7 @@ use Rattle.std.specs.List.{list_any}
 use Rattle.std.proofs.lemmas.Bool.{and_parts, not-true, or_parts}
 use Rattle.sqlite.specs.Store as store
 use Rattle.desk_bytes.specs.declared.refusal.Refusal.{Refusal}
+use Rattle.desk_texts.specs.declared.caller.Caller.{Caller}
 use Rattle.desk_texts.specs.declared.command.Person.{Person}
 use Rattle.desk_history.specs.Calls.{History, are_apart}
 use Rattle.desk_history.specs.Formed.{IsHistory}
@@ -13,7 +14,7 @@ use Rattle.desk_history.proofs.ListLemmas.{bytes_eq-refl, same_text}
 use Rattle.desk_history.proofs.RowLemmas.{rows_stand_once}
 use Rattle.store_reads.specs.People.{IsOneOf}
 use Rattle.store_reads.specs.Reads.{listed}
-use Rattle.desk_store.specs.Desks.{ReadsDesk, ShowsDesk}
+use Rattle.desk_store.specs.Desks.{ForEachShown, ReadsDesk, ShowsDesk}
 use Rattle.desk_store.specs.declared.desk.Desk.{Desk}
 
 module _ {S : Type 0} (g : store.Ghosts S) (desk : Desk S) where
@@ -44,6 +45,15 @@ module _ {S A : Type 0} (g : store.Ghosts S) (may : Refusal → Type 0) (old new
     closed = λ is. absurd (let h = sym is ∙ usable in cc);
     named = it.named;
   }
+
+module _ {S : Type 0} (g : store.Ghosts S) (old : Desk S) {left person : Option Person} {caller named : Caller} (none : left ≡ None) (taken : person ≡ old.remembered.person) (is : caller ≡ named) where
+  -- what was told of each history to the person of a name, with the person who was taken
+  pub asked : (told : Caller → List ℕ → History → Type 0)
+      → ForEachShown g (record old { remembered = record old.remembered { person = left } }) (λ owner cs. IsOneOf person (people cs) → told named owner cs)
+      → ForEachShown g old (told caller)
+  asked told each = λ owner cs was.
+      let one : IsOneOf person (people cs) = subst (λ (o : Option Person). IsOneOf o (people cs)) (sym taken) was.remembered.person in
+      subst (λ (who : Caller). told who owner cs) (sym is) (each owner cs (without_person g old left none owner cs was) one)
 
 -- ---- the only one who has a token is the only one of that name
 

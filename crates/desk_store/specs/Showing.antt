@@ -47,9 +47,10 @@ module _ {S A : Type 0} (g : Ghosts S) (old new : Desk S) (result : Result A Ref
       HasCleanDisk (state g new.conn)
       → IfErr result (λ refusal. refusal ≢ refusals.NoMemory → refusal ≢ refusals.Store → ForEachShown g old (λ owner cs. due owner cs (Err refusal)))
 
--- an export, as it is shown
+-- an export, as it is shown. own: shim's form is one of dbx; nobody asks to read it
 abbrev pub shown_export : {L : Type 0} → Export → List ℕ → Shown L
 shown_export exports.Db bytes = shown.Db bytes
 shown_export exports.Dbx bytes = shown.Dbx bytes
+shown_export exports.Shim bytes = shown.Dbx bytes
 shown_export exports.Level bytes = shown.Level bytes
 shown_export exports.Minutes bytes = shown.Minutes bytes

@@ -5,7 +5,7 @@ use Rattle.sqlite.specs.Held.{Held, state}
 use Rattle.sqlite.specs.Listing.{understood}
 use Rattle.sqlite.specs.Order.{Row}
 use Rattle.sqlite.specs.Schema.{Schema}
-use Rattle.sqlite.specs.State.{State, KeepsCommit}
+use Rattle.sqlite.specs.State.{State, HasCleanDisk, KeepsCommit}
 use Rattle.sqlite.specs.Store.{Ghosts}
 use Rattle.sqlite.specs.Tree.{Trees}
 use Rattle.sqlite.specs.declared.error.Error.{Error}
@@ -21,12 +21,12 @@ use Rattle.store_reads.specs.Own.{ReadsAs, ReadsAsNone, ReadsBy, ShowsOwn}
 use Rattle.store_reads.specs.declared.desk_row.OwnRow.{OwnRow}
 use Rattle.store_sql.specs.Contents.{Contents}
 use Rattle.store_sql.specs.Layouts.{Layout}
-use Rattle.store_sql.specs.States.{Sees, Shows}
+use Rattle.store_sql.specs.States.{Sees, Shows, Spares}
 use Rattle.store_schema.specs.Names.{takes_an_added_name}
 use Rattle.store_schema.specs.Tables.{desk_layout, first_layout, no_schema}
 use Rattle.store_schema.specs.declared.selecting.TheConstants.{SELECT_DESK}
 use Rattle.store_schema.specs.rows.Histories.{ShowsFirst, ShowsHistory, rows_of}
-use Rattle.store_migration.specs.Migrations.{Migrates}
+use Rattle.store_migration.specs.Migrations.{KeepsShown, Migrates}
 use Rattle.desk_store.specs.Founding.{FoundsBeside}
 use Rattle.desk_store.specs.Rows.{AreOf}
 
@@ -98,6 +98,13 @@ pub record TellsInside {S : Type 0} (g : Ghosts S) (conn : Held S) (result : Res
 pub record TellsOutside {S : Type 0} (g : Ghosts S) (conn : Held S) (result : Result OwnRow Refusal) : Type 0 where
   pub told : TellsInside g conn result
   pub named : OnOk result (HasDesk (state g conn).now.schema)
+
+-- A connection that was only read: it shows what it showed, an open one has the same schema, and a
+-- stop leaves nothing new.
+pub record OnlyLooks {S : Type 0} (g : Ghosts S) (old new : Held S) : Type 0 where
+  pub shown : HasCleanDisk (state g new) → KeepsShown (state g old) (state g new)
+  pub schema : HasCleanDisk (state g new) → IsTrue (state g new).is_open → (state g new).now.schema ≡ (state g old).now.schema
+  pub spares : Spares g old new
 
 -- ---- the desk that an opening finds, by the open connection before it
 

@@ -17,7 +17,8 @@ use store_exports::export;
 
 impl<S: Alter + Drop> Desk<S> {
     /// Writes an export. Each row is written as the store gives it; the owner and the stamp are those
-    /// that the desk has. Takes memory for one row.
+    /// that the desk has. Takes memory for one row; shim's form for the revoked certificates and
+    /// their bodies.
     ///
     /// `Write`: the writer failed. `NoMemory`: memory was refused. `Store`: the store failed, or
     /// isn't as a desk left it. After each the writer holds a prefix of the export, which may be

@@ -15,6 +15,7 @@ mod living;
 mod officer_questions;
 mod officers;
 mod opening;
+mod own_lines;
 mod questions;
 mod reading;
 mod restarting;

@@ -9,7 +9,7 @@ ghost use Rattle.store_sql.specs.States.{CommitsNothing, Spares};
 ghost use Rattle.store_schema.specs.rows.Histories.{HoldsFirst, HoldsHistory, ShowsFirst, ShowsHistory};
 ghost use Rattle.store_migration.specs.Migrations.{KeepsShown};
 ghost use Rattle.desk_store.specs.Steps.{Brings, FindsKnown, FindsNone, FindsOther, IsOwnOf};
-ghost use Rattle.desk_store.specs.Steps.{IsReadRefusal, RefusesColumns, RefusesText};
+ghost use Rattle.desk_store.specs.Steps.{IsReadRefusal, OnlyLooks, RefusesColumns, RefusesText};
 ghost use Rattle.desk_store.specs.Steps.{TellsInside, TellsOutside};
 
 use desk_bytes::Refusal;
@@ -92,14 +92,10 @@ fn own_row_of<S: Alter>(tx: &mut Transaction<'_, S>) -> Result<OwnRow, Refusal>
 fn read_own_row<S: Alter>(conn: &mut Connection<S>) -> Result<OwnRow, Refusal>
     requires outside { conn.old.in_transaction ≡ false }
     ensures outside { conn.new.in_transaction ≡ false }
-    ensures shown { HasCleanDisk (state S.Store conn.new)
-        → KeepsShown (state S.Store conn.old) (state S.Store conn.new) }
-    ensures schema { HasCleanDisk (state S.Store conn.new) → IsTrue (state S.Store conn.new).is_open
-        → (state S.Store conn.new).now.schema ≡ (state S.Store conn.old).now.schema }
+    ensures looks { OnlyLooks S.Store conn.old conn.new }
     ensures told { HasCleanDisk (state S.Store conn.new)
         → TellsInside S.Store conn.old result }
     ensures named { IfErr result IsReadRefusal }
-    ensures survives { Spares S.Store conn.old conn.new }
 {
     let _settled = conn.is_autocommit();
     let mut tx = conn.transaction();
@@ -112,14 +108,10 @@ fn read_own_row<S: Alter>(conn: &mut Connection<S>) -> Result<OwnRow, Refusal>
 fn read_table<S: Alter>(conn: &mut Connection<S>) -> Result<OwnRow, Refusal>
     requires outside { conn.old.in_transaction ≡ false }
     ensures outside { conn.new.in_transaction ≡ false }
-    ensures shown { HasCleanDisk (state S.Store conn.new)
-        → KeepsShown (state S.Store conn.old) (state S.Store conn.new) }
-    ensures schema { HasCleanDisk (state S.Store conn.new) → IsTrue (state S.Store conn.new).is_open
-        → (state S.Store conn.new).now.schema ≡ (state S.Store conn.old).now.schema }
+    ensures looks { OnlyLooks S.Store conn.old conn.new }
     ensures told { HasCleanDisk (state S.Store conn.new)
         → TellsOutside S.Store conn.old result }
     ensures named { IfErr result IsReadRefusal }
-    ensures survives { Spares S.Store conn.old conn.new }
 {
     let is_there = has_desk(conn);
     match read_own_row(conn) {

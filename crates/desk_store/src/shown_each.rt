@@ -44,7 +44,7 @@ fn shown_as<L>(what: Export, bytes: Octets) -> Shown<L>
 {
     match what {
         Export::Db => Shown::Db(bytes),
-        Export::Dbx => Shown::Dbx(bytes),
+        Export::Dbx | Export::Shim => Shown::Dbx(bytes),
         Export::Level => Shown::Level(bytes),
         Export::Minutes => Shown::Minutes(bytes),
     }

@@ -1,10 +1,12 @@
 //! One request, from a reader or a connection.
+ghost use Rattle.std.specs.Prelude.{◌≢◌, Err};
+ghost use Rattle.desk_http.specs.Intakes.{EndIsCaused};
 ghost use Rattle.desk_http.specs.Serving.{AnswersOne};
 ghost use Rattle.http_net.specs.Wire.{IsOneRequest};
 
 use crate::{Timed, read_off};
 use desk_calls::Answering;
-use desk_http::{HttpFault, Served, serve_one};
+use desk_http::{HttpFault, Intake, Served, serve_one};
 use http_requests::Routes;
 use std::alloc::Global;
 use std::io::{BufReader, Read, Write};
@@ -38,15 +40,17 @@ pub fn answer_connection<D: Answering, R: Read + Drop, W: Write>(
     routes: &Routes,
     desk: &mut D,
     reader: R,
+    intake: &mut Intake,
     writer: &mut W,
 ) -> Result<Served, HttpFault>
     ensures serves { AnswersOne D.shows D.clean D.failed (R.remaining reader)
         (W.contents writer.old) (W.contents writer.new) desk.old desk.new result }
+    ensures cause { result ≢ Err HttpFault.NoMemory → EndIsCaused intake.old intake.new result }
 {
     let Ok(mut reader) = BufReader::new(alloc, reader) else {
         return Err(HttpFault::NoMemory);
     };
-    serve_one(alloc, routes, desk, &mut reader, writer)
+    serve_one(alloc, routes, desk, &mut reader, intake, writer)
 }
 
 /// Serves one request of a connection. If memory for the reader is refused, or the peer misses its
@@ -62,7 +66,8 @@ pub(crate) fn serve_stream<C: Clock, D: Answering>(
 {
     let reader = Timed::new(clock, stream);
     let mut writer = Timed::new(clock, stream);
-    let served = answer_connection(alloc, routes, desk, reader, &mut writer);
+    let mut intake = Intake::new();
+    let served = answer_connection(alloc, routes, desk, reader, &mut intake, &mut writer);
     if was_answered(&served) {
         end_response(clock, stream);
     }

@@ -4,15 +4,15 @@ ghost use Rattle.http_net.specs.Faults.{IsAnsweringRefusal, IsLasting};
 ghost use Rattle.http_net.specs.Served as spec;
 
 use desk_bytes::Refusal;
-use desk_http::{Answered, HttpFault, Served};
-use http_responses::{Outage, Refused};
+use desk_http::{Answered, HttpFault, Said, Served};
+use http_responses::Outage;
 
 /// The refusal after which the desk has to be opened again, where a response says so.
 fn lasting_refusal(answered: Answered) -> Option<Refusal>
-    ensures value { result ≡ spec.lasting answered.refused }
+    ensures value { result ≡ spec.lasting answered.said }
     ensures named { IfSome result IsLasting }
 {
-    let Some(Refused::Unavailable(outage)) = answered.refused else {
+    let Said::Unavailable(outage) = answered.said else {
         return None;
     };
     match outage {

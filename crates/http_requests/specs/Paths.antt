@@ -45,12 +45,17 @@ added path resource rows = with_read (parse_route path) resource rows
 -- the rows and the paths of requests
 unfoldable pub with_requests : Table → Table
 with_requests rows =
-    added (codes "/verdict") (post_image image.Verdict)
-    (added (codes "/requests/{no}/return") (post_image image.Return)
+    added (codes "/requests/{no}/return") (post_image image.Return)
     (added (codes "/requests/{no}/withdraw") (post_command command.Withdraw)
     (added (codes "/requests/{no}/review") (post_command command.Review)
     (added (codes "/requests/{no}") (get read.Request)
-    (added (codes "/requests") (GetAndPost read.Requests (Image image.Submit)) rows)))))
+    (added (codes "/requests") (GetAndPost read.Requests (Image image.Submit)) rows))))
+
+-- the rows and the paths of images that no request has
+unfoldable pub with_images : Table → Table
+with_images rows =
+    added (codes "/facts") (post_image image.Facts)
+    (added (codes "/verdict") (post_image image.Verdict) rows)
 
 -- the rows and the paths of proposals
 unfoldable pub with_proposals : Table → Table
@@ -81,15 +86,16 @@ with_rest rows =
     (added (codes "/level") (GetAndPost read.Level (Command command.RaiseLevel))
     (added (codes "/dbx/certificates") (post_command command.RevokeCertificate) rows)))))
 
--- the rows and the paths of the minutes and of people
+-- the rows and the paths of the minutes, of people and of the caller
 unfoldable pub with_records : Table → Table
 with_records rows =
-    added (codes "/people") (get read.People)
-    (added (codes "/minutes/{no}") (get read.Minutes) rows)
+    added (codes "/me") (get read.Me)
+    (added (codes "/people") (get read.People)
+    (added (codes "/minutes/{no}") (get read.Minutes) rows))
 
 -- the table
 unfoldable pub table : Table
-table = with_records (with_rest (with_lists (with_proposals (with_requests []))))
+table = with_records (with_rest (with_lists (with_proposals (with_images (with_requests [])))))
 
 -- the resource at a target in the table, by the definition of `matchit`
 unfoldable pub listed_at : List ℕ → Option Resource

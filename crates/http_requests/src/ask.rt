@@ -1,7 +1,17 @@
 //! A request without its body.
 
+use desk_exports::Reading;
 use desk_texts::{Command, Key, RequestNumber, Title};
 use sbat::Stamp;
+
+/// A request to read.
+#[derive(Clone, Copy, Debug, PartialEq, Eq)]
+pub enum ReadAsked {
+    /// From the desk.
+    Desk(Reading),
+    /// The caller's own name and role.
+    Me,
+}
 
 /// A request with an image. A command has the key under which the caller gives it.
 #[derive(Debug, Drop)]
@@ -12,6 +22,8 @@ pub enum ImageAsked {
     Return(Key, RequestNumber),
     /// The desk's verdict on the image.
     Verdict,
+    /// The facts of the image.
+    Facts,
 }
 
 /// A command without an image, and the key under which the caller gives it.

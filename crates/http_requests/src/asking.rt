@@ -8,7 +8,7 @@ ghost use Rattle.http_requests.specs.declared.fault.AskedFault.TheVariants.{NoSu
 use crate::target::minute_number;
 use crate::{
     AskedFault, BytesAsked, CommandAsked, CommandRoute, GetRoute, ImageAsked, ImageRoute,
-    JsonAsked, KeyedAsked, Wanted,
+    JsonAsked, KeyedAsked, ReadAsked, Wanted,
 };
 use desk_exports::Reading;
 use desk_texts::{Command, GREATEST_NUMBER, Key, ProposalNumber, RequestNumber, TextFault, Title};
@@ -99,21 +99,22 @@ fn minute(wanted: &Wanted<'_>) -> Result<u64, AskedFault>
 /// The request of a GET, or NoSuchRequest if `{no}` isn't 1 to 6 digits without a leading zero, and
 /// at a path of proposals NoSuchProposal; at the path of the minutes it is 1 to 7 such digits, or
 /// NoRoute, which `check_head` gives before. To be called once the caller is known.
-pub fn read_asked(route: GetRoute, wanted: &Wanted<'_>) -> Result<Reading, AskedFault>
+pub fn read_asked(route: GetRoute, wanted: &Wanted<'_>) -> Result<ReadAsked, AskedFault>
     ensures { spec.Gives (spec.read_at route (want.shown wanted.now)) result }
 {
     match route {
-        GetRoute::Requests => Ok(Reading::Requests),
-        GetRoute::Request => Ok(Reading::Request(number(wanted)?)),
-        GetRoute::Proposals => Ok(Reading::Proposals),
-        GetRoute::Proposal => Ok(Reading::Proposal(proposal(wanted)?)),
-        GetRoute::Impact => Ok(Reading::Impact(proposal(wanted)?)),
-        GetRoute::Dbx => Ok(Reading::Dbx),
-        GetRoute::Db => Ok(Reading::Db),
-        GetRoute::Level => Ok(Reading::Level),
-        GetRoute::Report => Ok(Reading::Report),
-        GetRoute::Minutes => Ok(Reading::Minutes(minute(wanted)?)),
-        GetRoute::People => Ok(Reading::People),
+        GetRoute::Requests => Ok(ReadAsked::Desk(Reading::Requests)),
+        GetRoute::Request => Ok(ReadAsked::Desk(Reading::Request(number(wanted)?))),
+        GetRoute::Proposals => Ok(ReadAsked::Desk(Reading::Proposals)),
+        GetRoute::Proposal => Ok(ReadAsked::Desk(Reading::Proposal(proposal(wanted)?))),
+        GetRoute::Impact => Ok(ReadAsked::Desk(Reading::Impact(proposal(wanted)?))),
+        GetRoute::Dbx => Ok(ReadAsked::Desk(Reading::Dbx)),
+        GetRoute::Db => Ok(ReadAsked::Desk(Reading::Db)),
+        GetRoute::Level => Ok(ReadAsked::Desk(Reading::Level)),
+        GetRoute::Report => Ok(ReadAsked::Desk(Reading::Report)),
+        GetRoute::Minutes => Ok(ReadAsked::Desk(Reading::Minutes(minute(wanted)?))),
+        GetRoute::People => Ok(ReadAsked::Desk(Reading::People)),
+        GetRoute::Me => Ok(ReadAsked::Me),
     }
 }
 
@@ -138,6 +139,7 @@ pub fn image_asked(
             Ok(ImageAsked::Return(key, number(wanted)?))
         }
         ImageRoute::Verdict => Ok(ImageAsked::Verdict),
+        ImageRoute::Facts => Ok(ImageAsked::Facts),
     }
 }
 

@@ -59,14 +59,16 @@ pub fn other_paths_are_found()
     ensures imports_level { resource_of (codes "/imports/level")
         ≡ Some (post_command command.ImportLevel) }
     ensures verdict { resource_of (codes "/verdict") ≡ Some (post_image image.Verdict) }
+    ensures facts { resource_of (codes "/facts") ≡ Some (post_image image.Facts) }
     ensures report { resource_of (codes "/report") ≡ Some (get read.Report) }
 {}
 
-/// The paths of the minutes and of people are found.
+/// The paths of the minutes, of people and of the caller are found.
 pub fn paths_of_records_are_found()
     ensures minutes { resource_of (codes "/minutes/12") ≡ Some (get read.Minutes) }
     ensures last { resource_of (codes "/minutes/1000000") ≡ Some (get read.Minutes) }
     ensures people { resource_of (codes "/people") ≡ Some (get read.People) }
+    ensures me { resource_of (codes "/me") ≡ Some (get read.Me) }
 {}
 
 /// A path isn't found with a query, with a slash at its end, or with an empty part, and none of the

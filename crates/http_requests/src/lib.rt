@@ -15,7 +15,7 @@ mod target;
 mod want;
 mod wanting;
 
-pub use ask::{BytesAsked, CommandAsked, ImageAsked, JsonAsked, KeyedAsked};
+pub use ask::{BytesAsked, CommandAsked, ImageAsked, JsonAsked, KeyedAsked, ReadAsked};
 pub use asking::{command_asked, image_asked, read_asked};
 pub use bodies::{BodyFault, read_digest, read_level, read_review, read_unlist};
 pub use fault::{AskedFault, WantedFault};

@@ -39,6 +39,8 @@ pub enum GetRoute {
     Minutes,
     /// `/people`
     People,
+    /// `/me`
+    Me,
 }
 
 /// A route of POST, by the content that it takes.
@@ -57,6 +59,8 @@ pub enum ImageRoute {
     Return,
     /// `/verdict`
     Verdict,
+    /// `/facts`
+    Facts,
 }
 
 /// A route for a command whose content isn't an image. `{no}` stands for the number of a request or

@@ -1,8 +1,9 @@
 //! The table of paths.
 ghost use Rattle.std.specs.Prelude.{◌≡◌, IfOk, OnOk};
 ghost use Rattle.http_requests.specs.Paths.{added, get, listed_at, post_command, post_image};
-ghost use Rattle.http_requests.specs.Paths.{resource_of, table, with_lists, with_number};
-ghost use Rattle.http_requests.specs.Paths.{with_proposals, with_records, with_requests, with_rest};
+ghost use Rattle.http_requests.specs.Paths.{resource_of, table, with_images, with_lists};
+ghost use Rattle.http_requests.specs.Paths.{with_number, with_proposals, with_records};
+ghost use Rattle.http_requests.specs.Paths.{with_requests, with_rest};
 
 use crate::target::{minute_number, number_part};
 use crate::{CommandRoute, GetRoute, ImageRoute, PostRoute, Resource};
@@ -82,6 +83,7 @@ fn router(alloc: Global) -> Result<Router<Resource>, InsertError>
 {
     let mut router = Router::new(alloc);
     add_requests(&mut router)?;
+    add_images(&mut router)?;
     add_proposals(&mut router)?;
     add_lists(&mut router)?;
     add_rest(&mut router)?;
@@ -103,7 +105,15 @@ fn add_requests(router: &mut Router<Resource>) -> Result<(), InsertError>
     add_command(router, "/requests/{no}/review", CommandRoute::Review)?;
     add_command(router, "/requests/{no}/withdraw", CommandRoute::Withdraw)?;
     add_image(router, "/requests/{no}/return", ImageRoute::Return)?;
+    Ok(())
+}
+
+/// The paths of images that no request has.
+fn add_images(router: &mut Router<Resource>) -> Result<(), InsertError>
+    ensures { OnOk result (router.new ≡ with_images router.old) }
+{
     add_image(router, "/verdict", ImageRoute::Verdict)?;
+    add_image(router, "/facts", ImageRoute::Facts)?;
     Ok(())
 }
 
@@ -150,12 +160,13 @@ fn add_rest(router: &mut Router<Resource>) -> Result<(), InsertError>
     Ok(())
 }
 
-/// The paths of the minutes and of people.
+/// The paths of the minutes, of people and of the caller.
 fn add_records(router: &mut Router<Resource>) -> Result<(), InsertError>
     ensures { OnOk result (router.new ≡ with_records router.old) }
 {
     add_get(router, "/minutes/{no}", GetRoute::Minutes)?;
     add_get(router, "/people", GetRoute::People)?;
+    add_get(router, "/me", GetRoute::Me)?;
     Ok(())
 }
 

@@ -13,6 +13,7 @@ use Rattle.desk_history.specs.declared.impact.Rule.TheVariants as rules
 use Rattle.desk_history.specs.declared.rows.ProposalRow.{ProposalRow}
 use Rattle.desk_history.specs.declared.finding.Verdict.TheVariants.{Allowed, DbxCertificate, DbxDigest, NotListed, Sbat}
 use Rattle.desk_history.specs.declared.shown_person.ShownPerson.{ShownPerson}
+use Rattle.desk_texts.specs.declared.facts.Facts.{Facts}
 use Rattle.desk_texts.specs.declared.proposal.Proposal.{Proposal}
 use Rattle.desk_texts.specs.declared.reply.Counts.{Counts}
 use Rattle.desk_texts.specs.declared.reply.Reply.{Reply}
@@ -20,6 +21,7 @@ use Rattle.desk_texts.specs.declared.reply.Reply.TheVariants.{Added, Submitted, 
 use Rattle.desk_texts.specs.declared.shown.ShownRequest.{ShownRequest}
 use Rattle.desk_texts.specs.declared.shown.ShownReturn.{ShownReturn}
 use Rattle.http_responses.specs.json.Values.{digest_data, component_data}
+use Rattle.http_responses.specs.json.Facts.{facts_data}
 use Rattle.http_responses.specs.json.Impacts.{adds_data, barred_data, rule_data}
 use Rattle.http_responses.specs.json.People.{person_data}
 use Rattle.http_responses.specs.json.Proposals.{proposal_data}
@@ -38,6 +40,14 @@ no_item_has_float as_data none (x ∷ xs) = rw (none x, no_item_has_float as_dat
 returned_has_no_float : (returned : Option ShownReturn) → has_float (returned_data returned) ≡ false
 returned_has_no_float None = refl
 returned_has_no_float (Some returned) = refl
+
+-- facts have none
+pub facts_have_no_float : (x : Facts) → has_float (facts_data x) ≡ false
+facts_have_no_float x =
+    rw (
+      no_item_has_float digest_data (λ digest. refl) x.carried,
+      no_item_has_float component_data (λ component. refl) x.components,
+    ) refl
 
 -- a request has none
 pub request_has_no_float : (r : ShownRequest) → has_float (request_data r) ≡ false

@@ -1,5 +1,5 @@
--- own: the refusals of a request: the row in the table of refusals, the place and the status of
--- each.
+-- own: the refusals of a request, and outages: the row in the table of refusals of each, the place
+-- and the status of a refusal.
 use Rattle.std.specs.Prelude.{ℕ, List, Option, Some, None, codes}
 use Rattle.serde_json.specs.Data.{Data, member, no_members, number, object, string, unsigned}
 use Rattle.desk_bytes.specs.Refusals.{name_of, number_of}
@@ -65,7 +65,6 @@ refusal_of (refused.BadMethod methods) = refusal.BadMethod
 refusal_of refused.LengthNeeded = refusal.LengthNeeded
 refusal_of refused.TooLarge = refusal.TooLarge
 refusal_of refused.NotSupported = refusal.NotSupported
-refusal_of (refused.Unavailable outage) = outage_refusal outage
 
 -- the refusal of a request for a row alone; none if no request is refused for it, or if it needs a
 -- place or methods
@@ -109,10 +108,10 @@ refused_of refusal.Full = Some refused.Full
 refused_of refusal.NoSuchProposal = Some refused.NoSuchProposal
 refused_of refusal.OwnProposal = Some refused.OwnProposal
 refused_of refusal.ProposalClosed = Some refused.ProposalClosed
-refused_of refusal.NoMemory = Some (refused.Unavailable outage.NoMemory)
-refused_of refusal.Store = Some (refused.Unavailable outage.Store)
-refused_of refusal.Reopen = Some (refused.Unavailable outage.Reopen)
-refused_of refusal.NotADesk = Some (refused.Unavailable outage.NotADesk)
+refused_of refusal.NoMemory = None
+refused_of refusal.Store = None
+refused_of refusal.Reopen = None
+refused_of refusal.NotADesk = None
 refused_of refusal.Version = None
 refused_of refusal.File = None
 refused_of refusal.Exists = None
@@ -181,7 +180,6 @@ status_of (refused.BadMethod methods) = status.MethodNotAllowed methods
 status_of refused.LengthNeeded = status.LengthRequired
 status_of refused.TooLarge = status.PayloadTooLarge
 status_of refused.NotSupported = status.NotImplemented
-status_of (refused.Unavailable outage) = status.ServiceUnavailable
 
 -- a refusal of this name and number in JSON, with its place if it has one; the keys ascend
 abbrev pub refusal_data : List ℕ → ℕ → Option ℕ → Data
@@ -198,3 +196,7 @@ refusal_data name n (Some place) =
 -- the refusal of a request, in JSON
 abbrev pub refused_data : Refused → Data
 refused_data r = refusal_data (name_of (refusal_of r)) (number_of (refusal_of r)) (place_of r)
+
+-- an outage, in JSON
+abbrev pub outage_data : Outage → Data
+outage_data o = refusal_data (name_of (outage_refusal o)) (number_of (outage_refusal o)) None

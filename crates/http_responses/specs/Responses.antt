@@ -3,9 +3,10 @@ use Rattle.std.specs.Prelude.{ℕ, List, [], ◌++◌, length, decimal, codes, u
 use Rattle.http.specs.StatusCode.{reason_phrase, code_digits}
 use Rattle.serde_json.specs.Written.{compact_text}
 use Rattle.http_requests.specs.Routes.{methods_text}
-use Rattle.http_responses.specs.Refusals.{refused_data, status_of}
+use Rattle.http_responses.specs.Refusals.{outage_data, refused_data, status_of}
 use Rattle.http_responses.specs.declared.content.Content.{Content}
 use Rattle.http_responses.specs.declared.content.Content.TheVariants as content
+use Rattle.http_responses.specs.declared.outage.Outage.{Outage}
 use Rattle.http_responses.specs.declared.refused.Refused.{Refused}
 use Rattle.http_responses.specs.declared.status.Status.{Status}
 use Rattle.http_responses.specs.declared.status.Status.TheVariants as status
@@ -67,3 +68,7 @@ response_text status content body = head_text status content (length body) ++ bo
 -- the response to a request that is refused
 abbrev pub refused_text : Refused → List ℕ
 refused_text r = response_text (status_of r) content.Json (compact_text (refused_data r))
+
+-- the response to a request that the desk can't answer
+abbrev pub unanswered_text : Outage → List ℕ
+unanswered_text o = response_text status.ServiceUnavailable content.Json (compact_text (outage_data o))

@@ -1,4 +1,5 @@
 pub mod Arrays
+pub mod Facts
 pub mod ImpactPieces
 pub mod Impacts
 pub mod Members

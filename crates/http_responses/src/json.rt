@@ -1,7 +1,8 @@
-//! Replies, requests, proposals, impacts, people and verdicts in JSON (RFC 8259): no space between
-//! tokens, keys in ascending order.
+//! Replies, requests, facts, proposals, impacts, people and verdicts in JSON (RFC 8259): no space
+//! between tokens, keys in ascending order.
 
 mod arrays;
+mod facts;
 mod impacts;
 mod in_json;
 mod laws;
@@ -14,9 +15,10 @@ mod values;
 mod verdicts;
 mod whole_proposals;
 
+pub use facts::facts_json;
 pub use impacts::impact_json;
 pub use laws::each_verdict_is_said;
-pub use people::people_json;
+pub use people::{people_json, person_json};
 pub use proposals::proposals_json;
 pub use replies::reply_json;
 pub use requests::request_json;

@@ -2,10 +2,11 @@
 ghost use Rattle.std.specs.Prelude.{◌≡◌};
 ghost use Rattle.http_responses.specs.Outages.{outage_text as text_of};
 ghost use Rattle.http_responses.specs.Refusals as spec;
-ghost use Rattle.http_responses.specs.Responses.{refused_text};
-ghost use Rattle.http_responses.specs.declared.refused.Refused.TheVariants.{Unavailable};
+ghost use Rattle.http_responses.specs.Responses.{unanswered_text};
+ghost use Rattle.http_responses.specs.declared.outage.Outage.TheVariants.{NoMemory};
 
 use desk_bytes::Refusal;
+use std::alloc::AllocError;
 
 /// Why the desk can't answer any request: the refusals of status 503.
 #[derive(Clone, Copy, Debug, PartialEq, Eq)]
@@ -18,6 +19,14 @@ pub enum Outage {
     Reopen,
     /// The file holds no desk, or a desk that this program does not open.
     NotADesk,
+}
+
+impl From<AllocError> for Outage {
+    ghost from_gives = { λ _ outage. outage ≡ NoMemory };
+
+    fn from(_fault: AllocError) -> Outage {
+        Outage::NoMemory
+    }
 }
 
 impl Outage {
@@ -78,7 +87,7 @@ Connection: close\r\n\
 /// The whole response when the desk can't answer.
 #[tactic(auto, using(crate::proofs::OutageLemmas::outage_text_is))]
 pub fn outage_response(outage: Outage) -> &'static [u8]
-    ensures { result.now ≡ refused_text (Unavailable outage) }
+    ensures { result.now ≡ unanswered_text outage }
 {
     outage_text(outage).as_bytes()
 }

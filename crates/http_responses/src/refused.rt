@@ -2,15 +2,14 @@
 ghost use Rattle.std.specs.Prelude.{◌≡◌, IfSome};
 ghost use Rattle.http_responses.specs.Refusals as spec;
 
-use crate::outage::Outage;
 use crate::status::Status;
 use desk_bytes::Refusal;
 use http_requests::Methods;
 
 /// Why a request is refused: a row of the table of refusals, with what its response adds. Rows that
 /// no desk gives to a request have no variant: Read, Write, Line, Version, File, Exists, Minute and
-/// Owner. NameTaken and NotADesk have one, though no request that the routes know is refused for
-/// them.
+/// Owner; nor have those of an `Outage`. NameTaken has one, though no request that the routes know
+/// is refused for it.
 #[derive(Clone, Copy, Debug, PartialEq, Eq)]
 pub enum Refused {
     /// The file ends before a header that it needs.
@@ -63,7 +62,7 @@ pub enum Refused {
     AlreadyReviewed,
     /// The returned file isn't the image that was reviewed.
     DigestDiffers,
-    /// The image is revoked.
+    /// The image is barred: revoked, or below the level.
     Revoked,
     /// Neither the image's digest nor a certificate that it carries is listed.
     NotListed,
@@ -103,8 +102,6 @@ pub enum Refused {
     TooLarge,
     /// The HTTP request has a Transfer-Encoding.
     NotSupported,
-    /// The desk can't answer any request.
-    Unavailable(Outage),
 }
 
 impl Refused {
@@ -155,11 +152,11 @@ impl Refused {
             Refusal::LengthNeeded => Refused::LengthNeeded,
             Refusal::TooLarge => Refused::TooLarge,
             Refusal::NotSupported => Refused::NotSupported,
-            Refusal::NoMemory => Refused::Unavailable(Outage::NoMemory),
-            Refusal::Store => Refused::Unavailable(Outage::Store),
-            Refusal::Reopen => Refused::Unavailable(Outage::Reopen),
-            Refusal::NotADesk => Refused::Unavailable(Outage::NotADesk),
-            Refusal::SbatRow
+            Refusal::NoMemory
+            | Refusal::Store
+            | Refusal::Reopen
+            | Refusal::NotADesk
+            | Refusal::SbatRow
             | Refusal::List
             | Refusal::EntrySize
             | Refusal::CsvRow
@@ -225,7 +222,6 @@ impl Refused {
             Refused::LengthNeeded => Refusal::LengthNeeded,
             Refused::TooLarge => Refusal::TooLarge,
             Refused::NotSupported => Refusal::NotSupported,
-            Refused::Unavailable(outage) => outage.refusal(),
         }
     }
 
@@ -292,7 +288,6 @@ impl Refused {
             | Refused::CsvRow(_)
             | Refused::BadBody => Status::UnprocessableEntity,
             Refused::NotSupported => Status::NotImplemented,
-            Refused::Unavailable(_) => Status::ServiceUnavailable,
         }
     }
 }

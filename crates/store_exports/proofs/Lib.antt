@@ -9,3 +9,8 @@ pub mod StepLemmas
 pub mod CountedLemmas
 pub mod StampLemmas
 pub mod ListedLemmas
+pub mod AnsweredLemmas
+pub mod GatherLemmas
+pub mod PlaceLemmas
+pub mod WhereLemmas
+pub mod WrittenLemmas

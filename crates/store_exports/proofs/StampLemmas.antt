@@ -12,5 +12,6 @@ use Rattle.store_exports.specs.Exporting.{exported_with}
 pub exported_by_stamp : (what : Export) (owner : List ℕ) (now : ℕ) (cs : History) → now ≡ stamp cs → exported_with what owner now cs ≡ exported what owner cs
 exported_by_stamp exports.Db owner now cs is = refl
 exported_by_stamp exports.Dbx owner now cs is = refl
+exported_by_stamp exports.Shim owner now cs is = refl
 exported_by_stamp exports.Level owner now cs is = ap (λ n. level_lines n (map (λ x. (x.name, x.generation)) (level_components cs))) is
 exported_by_stamp exports.Minutes owner now cs is = refl

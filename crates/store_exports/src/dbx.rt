@@ -17,7 +17,7 @@ use store_reads::Counted;
 use store_schema::{SELECT_REVOKED_CERTIFICATES, SELECT_REVOKED_DIGESTS};
 
 /// Writes the list of the revoked digests of images, ascending, if there is one.
-fn put_digest_list<S: Alter, W: Write>(
+pub(crate) fn put_digest_list<S: Alter, W: Write>(
     alloc: Global,
     conn: &mut Connection<S>,
     owner: Guid,

@@ -11,7 +11,7 @@ use sqlite::{Alter, Connection};
 use store_reads::{Counted, ReadFault, count};
 
 /// The most digests of a list.
-const MOST_DIGESTS: u64 = 1_000_000;
+pub(crate) const MOST_DIGESTS: u64 = 1_000_000;
 
 /// The count of these rows. It commits nothing.
 pub(crate) fn size<S: Alter>(conn: &mut Connection<S>, what: Counted) -> Result<u64, ReadFault>

@@ -6,10 +6,13 @@ mod dbx;
 mod exporting;
 mod fault;
 mod forms;
+mod gathered;
+mod gathering;
 mod heads;
 mod level;
 mod lines;
 mod listed_forms;
+mod shim;
 mod taking;
 
 pub use exporting::export;

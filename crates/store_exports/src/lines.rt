@@ -32,7 +32,7 @@ struct CallColumns<'a> {
 }
 
 /// The text of a column. `Row`: it holds something else, or there is none.
-fn text_at(row: &Row, at: usize) -> Result<&[u8], ReadFault>
+pub(crate) fn text_at(row: &Row, at: usize) -> Result<&[u8], ReadFault>
     ensures { IfOk result (λ text. column row.now at ≡ Text text.now) }
 {
     match row.get_ref(at) {

@@ -1,6 +1,5 @@
 pub mod BarLemmas
 pub mod BroughtLemmas
-pub mod CallLemmas
 pub mod FoundLemmas
 pub mod LoopLemmas
 pub mod PassLemmas

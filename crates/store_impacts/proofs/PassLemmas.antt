@@ -10,6 +10,7 @@ use Rattle.desk_history.specs.Replies.{minute_of}
 use Rattle.desk_history.specs.Verdicts.{Standing}
 use Rattle.store_sql.specs.Effects.{TakesAll}
 use Rattle.store_exports.specs.Lines.{columns_of, columns_row}
+use Rattle.store_exports.proofs.GatherLemmas.{parted}
 use Rattle.store_exports.proofs.ListLemmas.{called}
 use Rattle.store_impacts.specs.Passing.{passed_by}
 use Rattle.store_impacts.specs.Steps.{Seen, SeesCall, seen_of, with_image}
@@ -18,10 +19,6 @@ use Rattle.store_impacts.proofs.BroughtLemmas.{sees_next}
 module _ {T E : Type 0} (entries : T → E) (standing : E → Standing) (seen : T → Seen) where
   abbrev pub Takes : T → Row → T → Type 0
   Takes old row new = (entries new ≡ entries old) × SeesCall (standing (entries old)) row (seen old) (seen new)
-
-  parted : (rows rest : List Row) (a b : T) → TakesAll Takes a (rows ++ rest) b → (mid : T) × TakesAll Takes a rows mid × TakesAll Takes mid rest b
-  parted [] rest a b h = (a, refl, h)
-  parted (row ∷ rows) rest a b (mid, one, more) = let it = parted rows rest mid b more in (it.0, (mid, one, it.1), it.2)
 
   -- the calls of the history, the first first
   abbrev rows_of : History → List Row
@@ -37,7 +34,7 @@ module _ {T E : Type 0} (entries : T → E) (standing : E → Standing) (seen : 
       let own = All-head IsItem i cs all in
       let split : TakesAll Takes a (rows_of cs ++ columns_row m ∷ []) b =
       subst (λ l. TakesAll Takes a l b) (ap (map columns_row) (reverse-cons m (called cs)) ∙ map-append columns_row (reverse (called cs)) (m ∷ [])) h in
-      let it = parted (rows_of cs) (columns_row m ∷ []) a b split in
+      let it = parted Takes (rows_of cs) (columns_row m ∷ []) a b split in
       let mid = it.0 in
       let before = passed cs (All-tail IsItem i cs all) a mid start it.1 in
       let end = it.2.0 in

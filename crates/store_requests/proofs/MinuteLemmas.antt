@@ -19,7 +19,7 @@ use Rattle.desk_history.proofs.ListLemmas.{number_itself}
 use Rattle.desk_history.proofs.RunLemmas.{newest}
 use Rattle.store_reads.specs.CallColumns.{texts_of}
 use Rattle.store_reads.specs.declared.call_texts.CallTexts.{CallTexts}
-use Rattle.store_requests.specs.Lines.{AreAfter, HasFirst, HasLines, calls_at, line_of}
+use Rattle.store_requests.specs.Lines.{AreAfter, HasFirst, HasLines, calls_at, line_after, line_of}
 use Rattle.store_requests.proofs.ItemLemmas.{drops, keeps}
 use Rattle.store_requests.proofs.OrderLemmas.{filter-reverse}
 
@@ -192,6 +192,16 @@ module _ (owner : List ℕ) (cs : History) where
           let same : min j most ≡ most = grind (arith, high) in
           let above : length xs ≤ j = omega (arith, h, high) in
           ap (λ n. drop n xs) same ∙ drop_of_length-le xs h ∙ sym (drop_of_length-le xs above)
+
+  -- the line after so many calls, by the texts of its call
+  told_after : (calls : ℕ) → line_after cs calls ≡ flat_map line_of (calls_at (tables owner cs) (calls + 1))
+  told_after calls = sym (lines_of (take 1 (drop calls oldest))) ∙ ap (flat_map line_of) (sym (calls_are calls))
+
+  pub none_after : (calls : ℕ) → calls_at (tables owner cs) (calls + 1) ≡ [] → line_after cs calls ≡ []
+  none_after calls none = told_after calls ∙ ap (flat_map line_of) none
+
+  pub one_after : (calls : ℕ) (c : CallTexts) → calls_at (tables owner cs) (calls + 1) ≡ c ∷ [] → line_after cs calls ≡ line_of c
+  one_after calls c is = told_after calls ∙ ap (flat_map line_of) is ∙ append-nil (line_of c)
 
   pub are_minutes : IsHistory cs → (number : ℕ) (bytes : List ℕ) → HasLines (tables owner cs) (min (number - 1) most_calls) bytes → bytes ≡ minutes_from cs number
   are_minutes h number bytes it =

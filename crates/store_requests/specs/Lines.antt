@@ -1,5 +1,8 @@
 -- The lines of calls that are read by their numbers. Auditors needn't believe these words.
-use Rattle.std.specs.Prelude.{◌≡◌, ◌⊎◌, ⊤, ℕ, ◌+◌, ◌==◌, ◌≤◌, List, [], ◌∷◌, ◌++◌, codes, decimal, filter, flat_map, length, map}
+use Rattle.std.specs.Prelude.{◌≡◌, ◌⊎◌, ⊤, ℕ, ◌+◌, ◌==◌, ◌≤◌, List, [], ◌∷◌, ◌++◌, codes, decimal, drop, filter, flat_map, length, map, reverse, take}
+use Rattle.desk_exports.specs.Exports.{minute_line}
+use Rattle.desk_history.specs.Calls.{History}
+use Rattle.desk_history.specs.Replies.{minutes}
 use Rattle.desk_history.specs.Tables.{Tables}
 use Rattle.store_reads.specs.CallColumns.{texts_of}
 use Rattle.store_reads.specs.declared.call_texts.CallTexts.{CallTexts}
@@ -30,3 +33,11 @@ pub record HasLines (t : Tables) (k : ℕ) (bytes : List ℕ) : Type 0 where
   pub most : lines ≤ 1000
   pub first : HasFirst t k lines bytes
   pub ends : (lines ≡ 1000) ⊎ (calls_at t (k + lines + 1) ≡ [])
+
+-- the line of the minutes after so many calls, if there is one
+abbrev pub line_after : History → ℕ → List ℕ
+line_after cs calls = flat_map minute_line (take 1 (drop calls (reverse (minutes cs))))
+
+-- the text is the line of the call of this number
+abbrev pub IsLineOf : History → ℕ → List ℕ → Type 0
+IsLineOf cs number text = (calls : ℕ) → number ≡ calls + 1 → text ≡ line_after cs calls

@@ -15,7 +15,7 @@ mod whole_proposal;
 
 pub use all_people::people_of;
 pub use listing::requests_of;
-pub use minute_lines::minutes_from;
+pub use minute_lines::{line_numbered, minutes_from};
 pub use officer::{is_officer, officer_of};
 pub use proposed::proposals_of;
 pub use showing::request;

@@ -6,7 +6,7 @@ ghost use Rattle.desk_history.specs.People.{people};
 ghost use Rattle.desk_history.specs.Shown.{IsGiven};
 ghost use Rattle.store_reads.specs.People.{IsOneOf};
 ghost use Rattle.store_reads.specs.Reads.{ReadsTables};
-ghost use Rattle.store_requests.specs.Lines.{HasLines, line_of};
+ghost use Rattle.store_requests.specs.Lines.{HasLines, IsLineOf, line_of};
 ghost use Rattle.store_requests.specs.Telling.{IsOfficerRefusal, TellsOf};
 ghost use Rattle.store_sql.specs.States.{DoesInside, CommitsNothing, Spares, StaysInside};
 ghost use Rattle.desk_texts.specs.declared.caller.Caller.TheVariants as callers;
@@ -81,6 +81,30 @@ fn lines_after<S: Alter>(
         push_line(&mut text, &call)?;
         lines += 1;
     }
+    Ok(text)
+}
+
+/// The line of the call of this number, counted from 1; nothing, if there is no such call. Takes
+/// memory for the line, and for the call.
+///
+/// `Store`: the number is above 2^63 - 1, or the store failed.
+pub fn line_numbered<S: Alter>(
+    alloc: Global,
+    tx: &mut Transaction<'_, S>,
+    number: u64,
+) -> Result<Vec<u8>, ReadFault>
+    ensures same_reference { tx.new.conn.ghost_name ≡ tx.old.conn.ghost_name }
+    ensures value { DoesInside S.Store tx.old.conn.now tx.new.conn.now result
+        (λ text. TellsOf (λ cs. IsLineOf cs number text.items)) }
+    ensures inside { StaysInside S.Store tx.old.conn.now tx.new.conn.now result }
+    ensures kept { CommitsNothing S.Store tx.old.conn.now tx.new.conn.now }
+    ensures survives { Spares S.Store tx.old.conn.now tx.new.conn.now }
+{
+    let mut text = Vec::new(alloc);
+    let Some(call) = call_numbered(alloc, tx, number)? else {
+        return Ok(text);
+    };
+    push_line(&mut text, &call)?;
     Ok(text)
 }
 

@@ -9,6 +9,7 @@ use std::test::Fail;
 use testing::Slow;
 
 mod days;
+mod following;
 
 /// What an audit of a reader's minutes tells.
 fn told_by<R: BufRead>(alloc: Global, reader: &mut R) -> Result<String, Fail> {

@@ -1,4 +1,4 @@
-//! Tests of requests and their responses.
+//! Tests of requests and their responses, and of connections over the loopback.
 #![tactic(auto)]
 
 #[cfg(test)]

@@ -11,6 +11,7 @@ use Rattle.cli_words.specs.declared.values.stop.Word.TheVariants as word
 abbrev pub named_export : List ℕ → Result Export Stop
 named_export text =
     if bytes_eq text (codes "dbx") then Ok exports.Dbx
+    else if bytes_eq text (codes "shim") then Ok exports.Shim
     else if bytes_eq text (codes "db") then Ok exports.Db
     else if bytes_eq text (codes "level") then Ok exports.Level
     else Err (stops.Word word.Export)

@@ -28,6 +28,13 @@ impl JsonText for ShownPerson {
     }
 }
 
+/// A person as a JSON object. Takes memory.
+pub fn person_json(alloc: Global, person: &ShownPerson) -> Result<Vec<u8>, AllocError>
+    ensures { IfOk result (λ text. text.items ≡ compact_text (spec.person_data person.now)) }
+{
+    person.json_text(alloc)
+}
+
 /// People as a JSON array, in their order. Takes memory for the text, and for the tree of one
 /// person at a time.
 pub fn people_json(alloc: Global, people: &[ShownPerson]) -> Result<Vec<u8>, AllocError>

@@ -3,12 +3,13 @@ ghost use Rattle.std.specs.Prelude.{◌≡◌, IfOk, OnOk};
 ghost use Rattle.serde_json.specs.Data.{string};
 ghost use Rattle.serde_json.specs.Written.{compact_text};
 ghost use Rattle.serde_json.specs.View.{members_view, view};
-ghost use Rattle.http_responses.specs.json.Members.{with_facts, with_state};
+ghost use Rattle.http_responses.specs.json.Members.{with_state};
 ghost use Rattle.http_responses.specs.json.Requests as spec;
 
 use crate::json::arrays::JsonText;
+use crate::json::facts::put_facts;
 use crate::json::in_json::{InJson, array_of};
-use desk_texts::{Facts, ShownRequest, ShownReturn, ShownVote};
+use desk_texts::{ShownRequest, ShownReturn, ShownVote};
 use serde_json::{Map, Value, json, put};
 use std::alloc::{AllocError, Global};
 
@@ -38,29 +39,6 @@ fn returned_value(alloc: Global, returned: Option<ShownReturn>) -> Result<Value,
         Some(returned) => returned.file.value(alloc),
         None => Ok(Value::Null),
     }
-}
-
-/// Adds what is shown of an image.
-#[tactic(auto, unfolding(crate::specs::json::Members::with_facts))]
-fn put_facts(
-    members: &mut Map<String, Value>,
-    alloc: Global,
-    facts: &Facts,
-) -> Result<(), AllocError>
-    ensures { OnOk result (members_view members.new.entries
-        ≡ with_facts facts.now (members_view members.old.entries)) }
-{
-    let carried = array_of(alloc, facts.carried.as_slice())?;
-    put(members, alloc, "carried", carried)?;
-    let components = array_of(alloc, facts.components.as_slice())?;
-    put(members, alloc, "components", components)?;
-    put(members, alloc, "digest", facts.digest.value(alloc)?)?;
-    put(members, alloc, "file", facts.file.value(alloc)?)?;
-    let gap = Value::from(facts.extent.gap());
-    put(members, alloc, "gap", gap)?;
-    let length = Value::from(facts.extent.length());
-    put(members, alloc, "length", length)?;
-    put(members, alloc, "signing", facts.signing.value(alloc)?)
 }
 
 /// Adds what is shown of what became of it.

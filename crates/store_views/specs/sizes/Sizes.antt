@@ -51,6 +51,11 @@ pub record AreAllKnown (k : KnownSizes) : Type 0 where
   pub calls : IsTrue (is_some k.calls)
   pub sizes : (table : LimitedTable) → IsTrue (is_some (known k table))
 
+-- each size is that of the tables
+pub record AreSizesOf (s : Sizes) (t : Tables) : Type 0 where
+  pub calls : s.calls ≡ length t.calls
+  pub sizes : (table : LimitedTable) → size_in s table ≡ rows_in t table
+
 -- the tables of the history with this item, but for the row that says how many calls were accepted by
 -- the first rules, which no command writes
 abbrev pub but_migrated : List ℕ → History → Item → Tables

@@ -1,6 +1,6 @@
 //! The sizes of the counted tables, if they are known.
 ghost use Rattle.std.specs.Prelude.{◌≡◌, ℕ, List, [], Some};
-ghost use Rattle.desk_history.specs.Tables.{tables};
+ghost use Rattle.desk_history.specs.Tables.{Tables, tables};
 ghost use Rattle.store_views.specs.sizes.Sizes as spec;
 ghost use Rattle.store_views.specs.sizes.Steps as steps;
 
@@ -88,6 +88,23 @@ impl KnownSizes {
             revoked_certificates: none,
             components: none,
             proposals: none,
+        }
+    }
+
+    /// Each size is known: these.
+    pub fn all(sizes: &Sizes) -> KnownSizes
+        ensures known { spec.AreAllKnown result }
+        ensures right { (t : Tables) → spec.AreSizesOf sizes.now t → spec.AreRight result t }
+    {
+        KnownSizes {
+            people: Some(sizes.people),
+            calls: Some(sizes.calls),
+            requests: Some(sizes.requests),
+            listed: Some(sizes.listed),
+            revoked_digests: Some(sizes.revoked_digests),
+            revoked_certificates: Some(sizes.revoked_certificates),
+            components: Some(sizes.components),
+            proposals: Some(sizes.proposals),
         }
     }
 

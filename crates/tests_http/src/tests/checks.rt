@@ -21,8 +21,13 @@ POST /minutes/1 HTTP/1.1|| =>  => HTTP/1.1 405 Method Not Allowed|Content-Type: 
 POST /people HTTP/1.1|Content-Length: 0|| =>  => HTTP/1.1 405 Method Not Allowed|Content-Type: application/json|Content-Length: 33|Allow: GET|Connection: close||{"name":"BadMethod","refused":54}
 POST /proposals/x HTTP/1.1|| =>  => HTTP/1.1 405 Method Not Allowed|Content-Type: application/json|Content-Length: 33|Allow: GET|Connection: close||{"name":"BadMethod","refused":54}
 POST /proposals/1/impact HTTP/1.1|Content-Length: 0|| =>  => HTTP/1.1 405 Method Not Allowed|Content-Type: application/json|Content-Length: 33|Allow: GET|Connection: close||{"name":"BadMethod","refused":54}
+POST /me HTTP/1.1|Desk-Token: olga-token-000001|Content-Length: 0|| =>  => HTTP/1.1 405 Method Not Allowed|Content-Type: application/json|Content-Length: 33|Allow: GET|Connection: close||{"name":"BadMethod","refused":54}
+GET /facts HTTP/1.1|Desk-Token: olga-token-000001|| =>  => HTTP/1.1 405 Method Not Allowed|Content-Type: application/json|Content-Length: 33|Allow: POST|Connection: close||{"name":"BadMethod","refused":54}
+POST /facts HTTP/1.1|| =>  => HTTP/1.1 411 Length Required|Content-Type: application/json|Content-Length: 36|Connection: close||{"name":"LengthNeeded","refused":55}
 POST /level HTTP/1.1|| =>  => HTTP/1.1 411 Length Required|Content-Type: application/json|Content-Length: 36|Connection: close||{"name":"LengthNeeded","refused":55}
 GET /level HTTP/1.1|Content-Length: 1|| =>  => HTTP/1.1 400 Bad Request|Content-Type: application/json|Content-Length: 32|Connection: close||{"name":"BadField","refused":51}
+GET /me HTTP/1.1|Content-Length: 1||x =>  => HTTP/1.1 400 Bad Request|Content-Type: application/json|Content-Length: 32|Connection: close||{"name":"BadField","refused":51}
+POST /facts HTTP/1.1|Content-Length: 134217729|| =>  => HTTP/1.1 413 Payload Too Large|Content-Type: application/json|Content-Length: 32|Connection: close||{"name":"TooLarge","refused":56}
 POST /verdict HTTP/1.1|Content-Length: 134217729|| =>  => HTTP/1.1 413 Payload Too Large|Content-Type: application/json|Content-Length: 32|Connection: close||{"name":"TooLarge","refused":56}
 POST /level HTTP/1.1|Content-Length: 4194305|| =>  => HTTP/1.1 413 Payload Too Large|Content-Type: application/json|Content-Length: 32|Connection: close||{"name":"TooLarge","refused":56}
 GET /level HTTP/1.1|| =>  => HTTP/1.1 401 Unauthorized|Content-Type: application/json|Content-Length: 37|WWW-Authenticate: Desk|Connection: close||{"name":"UnknownCaller","refused":20}
@@ -30,10 +35,13 @@ GET /level HTTP/1.1|Desk-Token: olga-token-000002|| =>  => HTTP/1.1 401 Unauthor
 POST /level HTTP/1.1|Content-Length: 9||{} =>  => HTTP/1.1 401 Unauthorized|Content-Type: application/json|Content-Length: 37|WWW-Authenticate: Desk|Connection: close||{"name":"UnknownCaller","refused":20}
 GET /minutes/1 HTTP/1.1|| =>  => HTTP/1.1 401 Unauthorized|Content-Type: application/json|Content-Length: 37|WWW-Authenticate: Desk|Connection: close||{"name":"UnknownCaller","refused":20}
 GET /people HTTP/1.1|Desk-Token: olga-token-000002|| =>  => HTTP/1.1 401 Unauthorized|Content-Type: application/json|Content-Length: 37|WWW-Authenticate: Desk|Connection: close||{"name":"UnknownCaller","refused":20}
+GET /me HTTP/1.1|Desk-Token: olga-token-000002|| =>  => HTTP/1.1 401 Unauthorized|Content-Type: application/json|Content-Length: 37|WWW-Authenticate: Desk|Connection: close||{"name":"UnknownCaller","refused":20}
+POST /facts HTTP/1.1|Content-Length: 3||MZ =>  => HTTP/1.1 401 Unauthorized|Content-Type: application/json|Content-Length: 37|WWW-Authenticate: Desk|Connection: close||{"name":"UnknownCaller","refused":20}
 GET /proposals/x HTTP/1.1|| =>  => HTTP/1.1 401 Unauthorized|Content-Type: application/json|Content-Length: 37|WWW-Authenticate: Desk|Connection: close||{"name":"UnknownCaller","refused":20}
 GET /proposals/07 HTTP/1.1|Desk-Token: olga-token-000001|| =>  => HTTP/1.1 404 Not Found|Content-Type: application/json|Content-Length: 38|Connection: close||{"name":"NoSuchProposal","refused":37}
 GET /proposals/1000000/impact HTTP/1.1|Desk-Token: olga-token-000001|| =>  => HTTP/1.1 404 Not Found|Content-Type: application/json|Content-Length: 38|Connection: close||{"name":"NoSuchProposal","refused":37}
 POST /level HTTP/1.1|Desk-Token: olga-token-000001|Content-Length: 3||{} =>  => HTTP/1.1 400 Bad Request|Content-Type: application/json|Content-Length: 31|Connection: close||{"name":"BadHead","refused":50}
+POST /facts HTTP/1.1|Desk-Token: olga-token-000001|Content-Length: 3||MZ =>  => HTTP/1.1 400 Bad Request|Content-Type: application/json|Content-Length: 31|Connection: close||{"name":"BadHead","refused":50}
 POST /requests HTTP/1.1|Desk-Token: olga-token-000001|Content-Length: 1025||@ =>  => HTTP/1.1 400 Bad Request|Content-Type: application/json|Content-Length: 31|Connection: close||{"name":"BadHead","refused":50}
 POST /requests/07/review HTTP/1.1|Desk-Token: olga-token-000001|Content-Length: 2||{} =>  => HTTP/1.1 400 Bad Request|Content-Type: application/json|Content-Length: 32|Connection: close||{"name":"BadField","refused":51}
 POST /requests HTTP/1.1|Desk-Token: olga-token-000001|Desk-Key: k1|Content-Length: 1024||@ =>  => HTTP/1.1 400 Bad Request|Content-Type: application/json|Content-Length: 32|Connection: close||{"name":"BadField","refused":51}
@@ -47,6 +55,7 @@ POST /db/certificates HTTP/1.1|Desk-Token: olga-token-000001|Desk-Key: k1|Conten
 POST /imports/csv HTTP/1.1|Desk-Token: olga-token-000001|Desk-Key: k1|Content-Length: 33||kind,value,generation~sbat,grub,~ =>  => HTTP/1.1 422 Unprocessable Entity|Content-Type: application/json|Content-Length: 37|Connection: close||{"at":1,"name":"CsvRow","refused":19}
 POST /imports/dbx HTTP/1.1|Desk-Token: olga-token-000001|Desk-Key: k1|Content-Length: 1||~ =>  => HTTP/1.1 422 Unprocessable Entity|Content-Type: application/json|Content-Length: 35|Connection: close||{"at":0,"name":"List","refused":15}
 POST /verdict HTTP/1.1|Desk-Token: olga-token-000001|Content-Length: 2||MZ =>  => HTTP/1.1 422 Unprocessable Entity|Content-Type: application/json|Content-Length: 28|Connection: close||{"name":"Short","refused":1}
+POST /facts HTTP/1.1|Desk-Token: olga-token-000001|Content-Length: 2||MZ =>  => HTTP/1.1 422 Unprocessable Entity|Content-Type: application/json|Content-Length: 28|Connection: close||{"name":"Short","refused":1}
 "#;
 
 #[test]

@@ -4,8 +4,8 @@ use desk_exports::Reading;
 use desk_texts::{Command, ProposalNumber, RequestNumber};
 use http_requests::{
     AskedFault, Begun, BytesAsked, CommandAsked, ImageAsked, JsonAsked, KeyedAsked, ParsedHead,
-    PostRoute, Route, Routes, Wanted, check_head, command_asked, image_asked, read_asked,
-    read_head,
+    PostRoute, ReadAsked, Route, Routes, Wanted, check_head, command_asked, image_asked,
+    read_asked, read_head,
 };
 use std::alloc::Global;
 use std::test::Fail;
@@ -87,6 +87,8 @@ NoRoute GET /minutes/12345678 HTTP/1.1||
 NoRoute POST /minutes/x HTTP/1.1||
 NoRoute GET /minutes/1/2 HTTP/1.1||
 NoRoute GET /people/ HTTP/1.1||
+NoRoute GET /me/ HTTP/1.1||
+NoRoute POST /facts/1 HTTP/1.1|Content-Length: 1||
 NoRoute POST /proposals//confirm HTTP/1.1|Content-Length: 0||
 BadMethod PUT /level HTTP/1.1||
 BadMethod get /level HTTP/1.1||
@@ -103,9 +105,14 @@ BadMethod POST /proposals/12 HTTP/1.1||
 BadMethod POST /proposals/x/impact HTTP/1.1||
 BadMethod POST /minutes/1 HTTP/1.1||
 BadMethod POST /people HTTP/1.1||
+BadMethod POST /me HTTP/1.1||
+BadMethod HEAD /me HTTP/1.1||
+BadMethod GET /facts HTTP/1.1||
+BadMethod HEAD /facts HTTP/1.1|Content-Length: 134217729||
 BadMethod GET /proposals/x/confirm HTTP/1.1||
 BadMethod GET /proposals/x/drop HTTP/1.1||
 LengthNeeded POST /verdict HTTP/1.1||
+LengthNeeded POST /facts HTTP/1.1||
 LengthNeeded POST /level HTTP/1.1||
 LengthNeeded POST /requests/x/review HTTP/1.1|Desk-Key: k||
 LengthNeeded POST /proposals/x/confirm HTTP/1.1|Desk-Key: k||
@@ -113,7 +120,9 @@ LengthNeeded POST /proposals/x/drop HTTP/1.1||
 BadField GET /level HTTP/1.1|Content-Length: 1||
 BadField GET /requests/x HTTP/1.1|Content-Length: 9999999999||
 BadField GET /proposals HTTP/1.1|Content-Length: 1||
+BadField GET /me HTTP/1.1|Content-Length: 1||
 TooLarge POST /verdict HTTP/1.1|Content-Length: 134217729||
+TooLarge POST /facts HTTP/1.1|Content-Length: 134217729||
 TooLarge POST /requests HTTP/1.1|Content-Length: 9999999999||
 TooLarge POST /requests/1/return HTTP/1.1|Content-Length: 134217729||
 TooLarge POST /level HTTP/1.1|Content-Length: 4194305||
@@ -171,6 +180,7 @@ Proposals GET /proposals HTTP/1.1||
 Proposal GET /proposals/999999 HTTP/1.1||
 Impact GET /proposals/1/impact HTTP/1.1||
 Verdict POST /verdict HTTP/1.1|Content-Length: 134217728||
+Facts POST /facts HTTP/1.1|Content-Length: 134217728|Desk-Key: a b||
 Dbx GET /dbx HTTP/1.1|Content-Length: 0000000000||
 Db GET /db HTTP/1.1|Desk-Key: a b||
 Level GET /level HTTP/1.1||
@@ -178,6 +188,7 @@ Report GET /report HTTP/1.1||
 Minutes GET /minutes/1 HTTP/1.1||
 Minutes GET /minutes/9999999 HTTP/1.1||
 People GET /people HTTP/1.1||
+Me GET /me HTTP/1.1||
 Level GET /level HTTP/1.0~~
 Level ~|~GET /level HTTP/1.1~Host: desk~~
 RaiseLevel POST /level HTTP/1.1|CONTENT-LENGTH:\t 7 \t|desk-key:k||
@@ -186,7 +197,7 @@ RaiseLevel POST /level HTTP/1.1|CONTENT-LENGTH:\t 7 \t|desk-key:k||
 /// The request of a head.
 #[derive(Drop)]
 enum Asked {
-    Read(Reading),
+    Read(ReadAsked),
     Image(ImageAsked),
     Command(KeyedAsked),
 }
@@ -230,8 +241,16 @@ fn outcome(alloc: Global, routes: &Routes, bytes: &[u8]) -> &'static str {
 }
 
 /// The name of a GET.
-fn name_of_read(asked: &Reading) -> &'static str {
+fn name_of_read(asked: &ReadAsked) -> &'static str {
     match asked {
+        ReadAsked::Desk(reading) => name_of_reading(reading),
+        ReadAsked::Me => "Me",
+    }
+}
+
+/// The name of a reading of the desk.
+fn name_of_reading(reading: &Reading) -> &'static str {
+    match reading {
         Reading::Requests => "Requests",
         Reading::Request(_) => "Request",
         Reading::Proposals => "Proposals",
@@ -252,6 +271,7 @@ fn name_of_image(asked: &ImageAsked) -> &'static str {
         ImageAsked::Submit(..) => "Submit",
         ImageAsked::Return(..) => "Return",
         ImageAsked::Verdict => "Verdict",
+        ImageAsked::Facts => "Facts",
     }
 }
 
@@ -373,7 +393,7 @@ const TITLE: &str = "POST /requests HTTP/1.1|Desk-Key: k|Desk-Title: shim 15.8|C
 fn is_titled(asked: &ImageAsked, title: &str) -> bool {
     match asked {
         ImageAsked::Submit(_, found) => found.as_str() == title,
-        ImageAsked::Return(..) | ImageAsked::Verdict => false,
+        ImageAsked::Return(..) | ImageAsked::Verdict | ImageAsked::Facts => false,
     }
 }
 
@@ -385,15 +405,15 @@ fn asks_for_title(alloc: Global) -> bool {
     }
 }
 
-/// The read that is asked for.
+/// The reading of the desk that is asked for.
 fn read_of(asked: &Asked) -> Option<Reading> {
     match asked {
-        Asked::Read(read) => Some(*read),
-        Asked::Image(_) | Asked::Command(_) => None,
+        Asked::Read(ReadAsked::Desk(reading)) => Some(*reading),
+        Asked::Read(ReadAsked::Me) | Asked::Image(_) | Asked::Command(_) => None,
     }
 }
 
-/// The read that a head asks for.
+/// The reading of the desk that a head asks for.
 fn read_by(alloc: Global, head: &str) -> Option<Reading> {
     read_of(&asked_by(alloc, head)?)
 }

@@ -1,12 +1,14 @@
 //! Whole responses.
 use desk_bytes::Refusal;
 use http_requests::Methods;
-use http_responses::{Content, Refused, Status, outage_response, refused_response, response};
+use http_responses::{
+    Content, Outage, Refused, Status, outage_response, refused_response, response,
+};
 use std::alloc::Global;
 use std::test::Fail;
 use testing::bytes_of;
 
-/// Responses, each after the name of the refusal, or the methods of its path.
+/// Responses, each after the name of the refusal or the outage, or the methods of its path.
 const REFUSALS: &str =
     r#"BadHead HTTP/1.1 400 Bad Request|Content-Type: application/json|Content-Length: 31|Connection: close||{"name":"BadHead","refused":50}
 UnknownCaller HTTP/1.1 401 Unauthorized|Content-Type: application/json|Content-Length: 37|WWW-Authenticate: Desk|Connection: close||{"name":"UnknownCaller","refused":20}
@@ -47,11 +49,7 @@ fn refusal(name: &str) -> Refusal {
         "LengthNeeded" => Refusal::LengthNeeded,
         "TooLarge" => Refusal::TooLarge,
         "BadBody" => Refusal::BadBody,
-        "NotSupported" => Refusal::NotSupported,
-        "NoMemory" => Refusal::NoMemory,
-        "Store" => Refusal::Store,
-        "Reopen" => Refusal::Reopen,
-        _ => Refusal::NotADesk,
+        _ => Refusal::NotSupported,
     }
 }
 
@@ -69,22 +67,27 @@ fn refused(name: &str) -> Option<Refused> {
     }
 }
 
-/// The response that takes no memory, if there is one.
-fn written(refused: Refused) -> Option<&'static [u8]> {
-    match refused {
-        Refused::Unavailable(outage) => Some(outage_response(outage)),
+/// The outage of this name, if it is one.
+fn outage(name: &str) -> Option<Outage> {
+    match name {
+        "NoMemory" => Some(Outage::NoMemory),
+        "Store" => Some(Outage::Store),
+        "Reopen" => Some(Outage::Reopen),
+        "NotADesk" => Some(Outage::NotADesk),
         _ => None,
     }
 }
 
-/// Whether the line's response is that of its first word, also without memory.
+/// Whether the line's response is that of its first word.
 fn is_answered(alloc: Global, line: &str) -> Result<bool, Fail> {
     let (name, text) = line.split_once(' ').ok_or("a name and a response")?;
-    let refused = refused(name).ok_or("what is refused")?;
     let wanted = bytes_of(alloc, text)?;
+    if let Some(outage) = outage(name) {
+        return Ok(outage_response(outage) == wanted.as_slice());
+    }
+    let refused = refused(name).ok_or("what is refused")?;
     let bytes = refused_response(alloc, refused)?;
-    let written = written(refused).unwrap_or(wanted.as_slice());
-    Ok(bytes.as_slice() == wanted.as_slice() && written == wanted.as_slice())
+    Ok(bytes.as_slice() == wanted.as_slice())
 }
 
 #[test]
@@ -94,6 +97,7 @@ fn answers_what_is_refused(rt: HostRuntime) -> Result<(), Fail> {
     }
     assert!(rt; Refused::of(Refusal::Write).is_none(), "a write");
     assert!(rt; Refused::of(Refusal::List).is_none(), "a place is told");
+    assert!(rt; Refused::of(Refusal::NoMemory).is_none(), "an outage");
     Ok(())
 }
 

@@ -1,6 +1,6 @@
 //! Results of `serve_one`.
 use super::serving::served;
-use desk_http::{Answered, HttpFault, Served};
+use desk_http::{Answered, HttpFault, Said, Served};
 use http_responses::{Outage, Refused, Status};
 use std::alloc::Global;
 use std::io::ErrorKind;
@@ -15,9 +15,9 @@ const LEVEL: &str = "GET /level HTTP/1.1|Desk-Token: olga-token-000001||";
 const STORE: &str =
     "POST /requests/1/withdraw HTTP/1.1|Desk-Token: olga-token-000001|Desk-Key: store|Content-Length: 0||";
 
-/// The result for a response of this status and refusal.
-fn answered(status: Status, refused: Option<Refused>) -> Result<Served, HttpFault> {
-    Ok(Served::Answered(Answered { status, refused }))
+/// The result for a response of this status that says this.
+fn answered(status: Status, said: Said) -> Result<Served, HttpFault> {
+    Ok(Served::Answered(Answered { status, said }))
 }
 
 /// The next result of the desk, for an input.
@@ -36,9 +36,9 @@ fn is_result(alloc: Global, line: &str, due: Result<Served, HttpFault>) -> Resul
 
 #[test]
 fn tells_what_was_served(rt: HostRuntime) -> Result<(), Fail> {
-    let level = answered(Status::Ok, None);
+    let level = answered(Status::Ok, Said::Given);
     assert!(rt; is_result(rt.alloc(), LEVEL, level)?, "a level");
-    let cut = answered(Status::BadRequest, Some(Refused::BadHead));
+    let cut = answered(Status::BadRequest, Said::Refused(Refused::BadHead));
     assert!(rt;
         is_result(rt.alloc(), "GET", cut)?,
         "a head that is cut short"
@@ -121,8 +121,7 @@ fn with_a_failing_store(
 
 /// The result for a response of this outage.
 fn unavailable(outage: Outage) -> Result<Served, HttpFault> {
-    let refused = Some(Refused::Unavailable(outage));
-    answered(Status::ServiceUnavailable, refused)
+    answered(Status::ServiceUnavailable, Said::Unavailable(outage))
 }
 
 #[test]

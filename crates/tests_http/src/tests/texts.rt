@@ -1,4 +1,4 @@
-//! Replies, requests, proposals, impacts, people and verdicts in JSON.
+//! Replies, requests, facts, proposals, impacts, people and verdicts in JSON.
 use desk_bytes::Digest;
 use desk_history::{
     BarredImage, Below, File, ProposalRow, Rule, ShownImpact, ShownPerson, Verdict,
@@ -9,8 +9,8 @@ use desk_texts::{
     ShownRequest, ShownReturn, ShownVote, ShownVotes, State, Title, Vote,
 };
 use http_responses::{
-    RequestsText, impact_json, people_json, proposal_json, proposals_json, reply_json,
-    request_json, verdict_json,
+    RequestsText, facts_json, impact_json, people_json, person_json, proposal_json, proposals_json,
+    reply_json, request_json, verdict_json,
 };
 use pe_image::Extent;
 use sbat::{Component, ComponentName, Components, Generation, Stamp};
@@ -444,11 +444,36 @@ fn are_people(alloc: Global) -> Result<bool, Fail> {
     Ok(text.as_slice() == PEOPLE.as_bytes())
 }
 
+/// Whether the text of a person is that person's own.
+fn is_person(alloc: Global) -> Result<bool, Fail> {
+    let name = PersonName::parse(alloc, b"sid")?;
+    let role = Role::Signer;
+    let text = person_json(alloc, &ShownPerson { name, role })?;
+    Ok(text.as_slice() == br#"{"name":"sid","role":"signer"}"#.as_slice())
+}
+
 #[test]
 fn writes_people(rt: HostRuntime) -> Result<(), Fail> {
     let none = people_json(rt.alloc(), &[])?;
     assert!(rt; none.as_slice() == b"[]".as_slice(), "none");
     assert!(rt; are_people(rt.alloc())?, "each role");
+    assert!(rt; is_person(rt.alloc())?, "one");
+    Ok(())
+}
+
+/// The facts of an image with two certificates and two components.
+const FACTS: &str =
+    r#"{"carried":["0101010101010101010101010101010101010101010101010101010101010101","0202020202020202020202020202020202020202020202020202020202020202"],"components":[["sbat",1],["shim",4]],"digest":"aaaaaaaaaaaaaaaaaaaaaaaaaaaaaaaaaaaaaaaaaaaaaaaaaaaaaaaaaaaaaaaa","file":"ffffffffffffffffffffffffffffffffffffffffffffffffffffffffffffffff","gap":0,"length":1024,"signing":"bbbbbbbbbbbbbbbbbbbbbbbbbbbbbbbbbbbbbbbbbbbbbbbbbbbbbbbbbbbbbbbb"}"#;
+
+/// Whether the text of the image's facts is their own.
+fn are_facts(alloc: Global) -> Result<bool, Fail> {
+    let text = facts_json(alloc, &facts(alloc)?)?;
+    Ok(text.as_slice() == FACTS.as_bytes())
+}
+
+#[test]
+fn writes_facts(rt: HostRuntime) -> Result<(), Fail> {
+    assert!(rt; are_facts(rt.alloc())?, "with certificates and components");
     Ok(())
 }
 

@@ -1,6 +1,6 @@
 //! The words of the command line.
 use super::{Call, check};
-use cli_words::{AuditWords, PersonWords, ServeWords, Words, WordsFault, words};
+use cli_words::{AuditWords, FollowWords, PersonWords, ServeWords, Words, WordsFault, words};
 use std::alloc::{AllocError, Global};
 use std::fmt::Write;
 use std::test::Fail;
@@ -17,10 +17,14 @@ verdict a.db b.efi = verdict of a.db and b.efi
 impact a.db 7 = impact of a.db: 7
 db a.db = db of a.db
 dbx a.db = dbx of a.db
+shim a.db = shim of a.db
 level a.db = level of a.db
 audit 0011 m.txt = audit of m.txt for 0011
 audit 0011 - = audit of - for 0011
 audit 0011 m.txt dbx = audit of m.txt for 0011: dbx
+audit 0011 m.txt shim = audit of m.txt for 0011: shim
+follow a.db 0011 m.txt = follow of m.txt on a.db for 0011
+follow a.db 0011 - = follow of - on a.db for 0011
 list a/b.esl = list of a/b.esl
 pack 0011 = pack of 0011
 minutes a.db = minutes of a.db
@@ -38,15 +42,17 @@ help verdict = Usage: desk verdict <DB> <FILE>
 help impact = Usage: desk impact <DB> <NUMBER>
 help db = Usage: desk db <DB>
 help dbx = Usage: desk dbx <DB>
+help shim = Usage: desk shim <DB>
 help level = Usage: desk level <DB>
 help audit = Usage: desk audit <OWNER> <FILE> [EXPORT]
+help follow = Usage: desk follow <DB> <OWNER> <FILE>
 help list = Usage: desk list <FILE>
 help pack = Usage: desk pack <OWNER>
 help minutes = Usage: desk minutes <DB>
 pack --help = Usage: desk pack <OWNER>
---version = desk 0.1.0 (rattle-kit-13f logic dac8208d650f15bf)
--V = desk 0.1.0 (rattle-kit-13f logic dac8208d650f15bf)
-pack --version = desk-pack 0.1.0 (rattle-kit-13f logic dac8208d650f15bf)
+--version = desk 0.2.0 (rattle-kit-13f logic dac8208d650f15bf)
+-V = desk 0.2.0 (rattle-kit-13f logic dac8208d650f15bf)
+pack --version = desk-pack 0.2.0 (rattle-kit-13f logic dac8208d650f15bf)
  = mistake
 x = mistake
 unpack x = mistake
@@ -76,10 +82,14 @@ db = mistake
 db a.db more = mistake
 dbx = mistake
 dbx a.db more = mistake
+shim = mistake
+shim a.db more = mistake
 level = mistake
 level a.db more = mistake
 audit 0011 = mistake
 audit 0011 m.txt dbx more = mistake
+follow a.db 0011 = mistake
+follow a.db 0011 m.txt more = mistake
 list = mistake
 list a/b.esl more = mistake
 pack = mistake
@@ -112,8 +122,10 @@ fn tell_words(told: &mut String, line: Words<'_>) -> Result<(), AllocError> {
         Words::Impact { db, number } => write!(told, "impact of {db}: {number}"),
         Words::Db { db } => write!(told, "db of {db}"),
         Words::Dbx { db } => write!(told, "dbx of {db}"),
+        Words::Shim { db } => write!(told, "shim of {db}"),
         Words::Level { db } => write!(told, "level of {db}"),
         Words::Audit(words) => tell_audit(told, words),
+        Words::Follow(words) => tell_follow(told, words),
         Words::List { file } => write!(told, "list of {file}"),
         Words::Pack { owner } => write!(told, "pack of {owner}"),
         Words::Minutes { db } => write!(told, "minutes of {db}"),
@@ -154,6 +166,12 @@ fn tell_audit(told: &mut String, words: AuditWords<'_>) -> Result<(), AllocError
         None => Ok(()),
         Some(export) => write!(told, ": {export}"),
     }
+}
+
+/// Appends the words of `follow`.
+fn tell_follow(told: &mut String, words: FollowWords<'_>) -> Result<(), AllocError> {
+    let FollowWords { db, owner, file } = words;
+    write!(told, "follow of {file} on {db} for {owner}")
 }
 
 /// The words of a line.

@@ -70,7 +70,13 @@ pub(super) fn does_each<S: Alter + Drop>(
 /// All exports of the desk, one after another: its minutes, dbx, db and level.
 pub(super) fn exports<S: Alter + Drop>(alloc: Global, desk: &mut Desk<S>) -> Option<Vec<u8>> {
     let mut bytes = Vec::new(alloc);
-    for what in [Export::Minutes, Export::Dbx, Export::Db, Export::Level] {
+    for what in [
+        Export::Minutes,
+        Export::Dbx,
+        Export::Shim,
+        Export::Db,
+        Export::Level,
+    ] {
         desk.export(what, &mut bytes).ok()?;
     }
     Some(bytes)

@@ -3,7 +3,7 @@ use super::asking::does;
 use super::*;
 use desk_answers::OpenDesk;
 use desk_calls::Answering;
-use desk_http::{HttpFault, serve_one};
+use desk_http::{HttpFault, Intake, serve_one};
 use desk_service::token_digest;
 use desk_texts::{Caller, Command, Key, Person, PersonName, Role};
 use http_requests::Routes;
@@ -40,7 +40,8 @@ fn loses<D: Answering>(alloc: Global, desk: &mut D, request: &str) -> Option<boo
     let input = bytes_of(alloc, request).ok()?;
     let mut reader = input.as_slice();
     let mut writer = Losing { is_accepted: false };
-    let served = serve_one(alloc, &routes, desk, &mut reader, &mut writer);
+    let mut intake = Intake::new();
+    let served = serve_one(alloc, &routes, desk, &mut reader, &mut intake, &mut writer);
     Some(served == Err(HttpFault::Write) && writer.is_accepted)
 }
 

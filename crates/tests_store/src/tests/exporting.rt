@@ -13,7 +13,7 @@ fn writer(alloc: Global, fails_at: u64) -> Narrow {
     }
 }
 
-/// Writes an export: `db`, `level`, `minutes`, or else dbx.
+/// Writes an export: `db`, `level`, `minutes`, `shim`, or else dbx.
 fn write<S: Alter + Drop>(
     desk: &mut Desk<S>,
     what: &str,
@@ -23,6 +23,7 @@ fn write<S: Alter + Drop>(
         "db" => desk.export(Export::Db, writer),
         "level" => desk.export(Export::Level, writer),
         "minutes" => desk.export(Export::Minutes, writer),
+        "shim" => desk.export(Export::Shim, writer),
         _ => desk.export(Export::Dbx, writer),
     }
 }

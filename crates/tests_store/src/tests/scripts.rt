@@ -59,6 +59,7 @@ olga o3 unlist-certificate 204 : unlisted
 verdict 160 160 1 204 0 : dbx-certificate
 olga o4 revoke-certificate 204 : AlreadyRevoked
 olga o4 unlist-certificate 204 : NotThere
+export shim : a1 59 c0 a5 e4 94 a7 4a 87 b5 ab 15 5c 2b f0 72 33 00*7 17 00*3 07*16 30 05 30 03 02 01*2
 ann a2 submit shim 160 160 0 0 : submitted 3
 ann a3 withdraw 3 : withdrawn 3
 olga o4 revoke 160 : proposed 2
@@ -128,6 +129,8 @@ otto w2 confirm 2 : confirmed 2 1 1 0 1
 olga v4 import 0 1 1 170 1 187 0 : proposed 3
 otto w3 confirm 3 : confirmed 3 0 0 0 1
 export dbx : 26 16 c4 c1 4c 50 92 40 ac a9 41 f9 36 93 43 28 4c 00*7 30 00*3 07*16 aa*32 \
+92 a4 d2 3b c0 96 79 40 b4 20 fc f9 8e f1 03 ed 5c 00*7 40 00*3 07*16 bb*32 00*16
+export shim : 26 16 c4 c1 4c 50 92 40 ac a9 41 f9 36 93 43 28 4c 00*7 30 00*3 07*16 aa*32 \
 92 a4 d2 3b c0 96 79 40 b4 20 fc f9 8e f1 03 ed 5c 00*7 40 00*3 07*16 bb*32 00*16
 olga v5 import 0 0 1 171 0 1 grub 4 : StampNotLater
 olga v5 import 2024010101 0 1 171 0 2 grub 4 shim 2 : proposed 4

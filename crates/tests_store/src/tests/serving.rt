@@ -7,7 +7,7 @@ use super::*;
 use desk_answers::OpenDesk;
 use desk_calls::{Answer, Answering, Call as Asked, Task};
 use desk_exports::{Octets, Reading, Shown};
-use desk_http::{serve_each, serve_one};
+use desk_http::{Intake, serve_each, serve_one};
 use desk_service::token_digest;
 use desk_texts::{Caller, Command, Key, PersonName, Role};
 use http_requests::Routes;
@@ -59,6 +59,7 @@ GET /proposals/1 HTTP/1.1|Desk-Token: otto-token-000006|| => HTTP/1.1 200 OK|Con
 GET /proposals/1/impact HTTP/1.1|Desk-Token: otto-token-000006|| => HTTP/1.1 409 Conflict|Content-Type: application/json|Content-Length: 38|Connection: close||{"name":"ProposalClosed","refused":39}
 POST /proposals/1/confirm HTTP/1.1|Desk-Token: otto-token-000006|Desk-Key: c2|Content-Length: 0|| => HTTP/1.1 409 Conflict|Content-Type: application/json|Content-Length: 38|Connection: close||{"name":"ProposalClosed","refused":39}
 POST /proposals/2/confirm HTTP/1.1|Desk-Token: otto-token-000006|Desk-Key: c2|Content-Length: 0|| => HTTP/1.1 404 Not Found|Content-Type: application/json|Content-Length: 38|Connection: close||{"name":"NoSuchProposal","refused":37}
+POST /facts HTTP/1.1|Desk-Token: ann-token-000001|Content-Length: 1024||@ => HTTP/1.1 200 OK|Content-Type: application/json|Content-Length: 279|Connection: close||{"carried":[],"components":[],"digest":"a035ceb75d7d18f5784a0da16d4cbfcc277a24990091c0827616a97541c6178b","file":"e4c220d8dab039abb3652b6fa6a553ed2263ecd9bc8c21da0d6b8015b6e0d14c","gap":0,"length":1024,"signing":"a035ceb75d7d18f5784a0da16d4cbfcc277a24990091c0827616a97541c6178b"}
 POST /verdict HTTP/1.1|Desk-Token: ann-token-000001|Content-Length: 1024||@ => HTTP/1.1 200 OK|Content-Type: application/json|Content-Length: 24|Connection: close||{"verdict":"dbx-digest"}
 POST /dbx/digests HTTP/1.1|Desk-Token: olga-token-000005|Desk-Key: c1|Content-Length: 77||{"digest":"a035ceb75d7d18f5784a0da16d4cbfcc277a24990091c0827616a97541c6178b"} => HTTP/1.1 409 Conflict|Content-Type: application/json|Content-Length: 38|Connection: close||{"name":"AlreadyRevoked","refused":30}
 POST /db/certificates HTTP/1.1|Desk-Token: olga-token-000005|Desk-Key: k3|Content-Length: 7||^ => HTTP/1.1 200 OK|Content-Type: application/json|Content-Length: 18|Connection: close||{"reply":"listed"}
@@ -80,6 +81,7 @@ POST /proposals/5/drop HTTP/1.1|Desk-Token: olga-token-000005|Desk-Key: k7|Conte
 GET /proposals HTTP/1.1|Desk-Token: otto-token-000006|| => HTTP/1.1 200 OK|Content-Type: application/json|Content-Length: 469|Connection: close||[{"certificates":0,"components":0,"digests":1,"number":1,"officer":"olga","state":"confirmed"},{"certificates":0,"components":1,"digests":0,"number":2,"officer":"olga","state":"confirmed"},{"certificates":0,"components":1,"digests":1,"number":3,"officer":"olga","state":"confirmed"},{"certificates":0,"components":2,"digests":0,"number":4,"officer":"olga","state":"confirmed"},{"certificates":1,"components":0,"digests":0,"number":5,"officer":"otto","state":"dropped"}]
 GET /proposals HTTP/1.1|Desk-Token: ann-token-000001|| => HTTP/1.1 403 Forbidden|Content-Type: application/json|Content-Length: 35|Connection: close||{"name":"NotYourRole","refused":21}
 GET /level HTTP/1.1|Desk-Token: ann-token-000001|| => HTTP/1.1 200 OK|Content-Type: text/plain|Content-Length: 32|Connection: close||sbat,1,2024010102~grub,4~shim,4~
+GET /me HTTP/1.1|Desk-Token: rita-token-000002|| => HTTP/1.1 200 OK|Content-Type: application/json|Content-Length: 33|Connection: close||{"name":"rita","role":"reviewer"}
 GET /report HTTP/1.1|Desk-Token: olga-token-000005|| => HTTP/1.1 200 OK|Content-Type: text/plain|Content-Length: 490|Connection: close||people                           6~requests                         2~open                             0~approved                         0~rejected                         1~withdrawn                        0~signed                           1~listed digests                   1~listed certificates              1~revoked digests                  2~revoked certificates             0~level components                 2~commands                        24~stamp                   2024010102~
 GET /report HTTP/1.1|Desk-Token: ann-token-000001|| => HTTP/1.1 403 Forbidden|Content-Type: application/json|Content-Length: 35|Connection: close||{"name":"NotYourRole","refused":21}"#;
 
@@ -138,7 +140,8 @@ fn served<D: Answering>(alloc: Global, desk: &mut D, input: &[u8]) -> Option<Vec
     let routes = Routes::new(alloc).ok()?;
     let mut reader = input;
     let mut writer = Vec::new(alloc);
-    serve_one(alloc, &routes, desk, &mut reader, &mut writer).ok()?;
+    let mut intake = Intake::new();
+    serve_one(alloc, &routes, desk, &mut reader, &mut intake, &mut writer).ok()?;
     Some(writer)
 }
 

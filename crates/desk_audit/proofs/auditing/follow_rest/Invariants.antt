@@ -1,14 +1,14 @@
-use Rattle.std.proofs.Common.{◌≡◌, ◌-◌, ◌^◌, ℕ, List, Option}
+use Rattle.std.proofs.Common.{◌≡◌, ◌-◌, ◌^◌}
 use Rattle.sqlite.specs.Held.{state}
 use Rattle.sqlite.specs.State.{HasCleanDisk}
 use Rattle.desk_audit.specs.Rules.{HasFollowedSecond}
+use Rattle.desk_audit.specs.Starts.{Start}
 use Rattle.desk_audit.proofs.auditing.follow_rest.Given as goal
 
 abbrev pub invariant-loop-calls : goal.invariant-loop-calls
 invariant-loop-calls g l = (HasCleanDisk (state g.S.Store l.desk.conn) → HasCleanDisk (state g.S.Store l.initial.desk.conn))
-    × (HasCleanDisk (state g.S.Store l.desk.conn) → (owner : List ℕ) (first : Option (List ℕ))
-    → HasFollowedSecond g.S.Store l.initial.desk owner l.before first (g.R.Read.remaining l.initial.reader)
-    → HasFollowedSecond g.S.Store l.desk owner l.calls first (g.R.Read.remaining l.reader))
+    × (HasCleanDisk (state g.S.Store l.desk.conn) → (s : Start) → HasFollowedSecond g.S.Store l.initial.desk s l.before (g.R.Read.remaining l.initial.reader)
+    → HasFollowedSecond g.S.Store l.desk s l.calls (g.R.Read.remaining l.reader))
     × (l.watch ≡ l.initial.watch)
 
 abbrev pub decreases-loop-calls : goal.decreases-loop-calls

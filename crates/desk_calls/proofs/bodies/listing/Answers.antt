@@ -4,10 +4,10 @@ use Rattle.desk_bytes.specs.Elements.{IsCertificate}
 use Rattle.desk_calls.proofs.BodyLemmas.{lists_none, no_tbs}
 use Rattle.desk_calls.proofs.bodies.listing.Goals as goal
 
-pub returns-in-Err-2-clause-reads : goal.returns-in-Err-2-clause-reads
-returns-in-Err-2-clause-reads c =
+pub returns-in-Err-2 : goal.returns-in-Err-2
+returns-in-Err-2 c =
     let same : c.deref.result.now ≡ c.args.body = (let e = c.deref.ensures.value in let f = c.into_vec-bytes.ensures in search (rules, e, f)) in
     let only : (t : List ℕ) → IsCertificate c.args.body t → ⊥ = subst (λ b. (t : List ℕ) → IsCertificate b t → ⊥) same c.in-Err.ensures.only in
     let none : tbs_of c.args.body ≡ None = no_tbs c.args.body c.tbs_is_read.ensures.found only in
     let few : nat_lt 65536 (length c.args.body) ≡ false = (let e = c.if-len-gt-LONGEST_CERTIFICATE.false in let f = c.into_vec-bytes.ensures in let h = c.len.ensures in search (rules, tests, e, f, h)) in
-    sym (lists_none c.args.body few none)
+    record { reads = sym (lists_none c.args.body few none) }

@@ -14,4 +14,4 @@ returns-in-Ok-clause-closed g c was =
 pub returns-in-Err-clause-closed : goal.returns-in-Err-clause-closed
 returns-in-Err-clause-closed g c was =
     let shut = c.in-Err.ensures.fails.closed was in
-    (shut_refusal c.args.person c.args.reading c.in-Err.refusal c.without_place.result c.without_place.ensures.value shut.0, shut.1)
+    (shut_refusal c.args.person c.args.reading c.in-Err.refusal c.refuse.result c.refuse.ensures shut.0, shut.1)

@@ -1,5 +1,6 @@
-use Rattle.desk_calls.specs.Answers.{AnswersImage}
-use Rattle.desk_calls.proofs.AnswerLemmas.{closed_as, closed_read, serves_as, serves_read}
+use Rattle.std.proofs.Common.{refl}
+use Rattle.desk_calls.specs.Answers.{AnswersImage, TellsFacts}
+use Rattle.desk_calls.proofs.AnswerLemmas.{closed_as, closed_read, closed_told, serves_as, serves_read, serves_told}
 use Rattle.desk_calls.proofs.serving.answer_image.Goals as goal
 
 pub returns-in-Submit-clause-served : goal.returns-in-Submit-clause-served
@@ -19,6 +20,13 @@ returns-in-Verdict-clause-served g c clean owner cs was =
     serves_as (g.D.Answering.shows c.judge.new.desk owner) (g.D.Answering.failed c.judge.new.desk) cs (λ x. AnswersImage cs c.args.name x c.args.image) c.args.asked _ c.judge.result c.in-Verdict.is
     (c.judge.ensures.served clean owner cs was)
 
+pub returns-in-Facts-clause-served : goal.returns-in-Facts-clause-served
+returns-in-Facts-clause-served g c clean owner cs was =
+    let shows = g.D.Answering.shows c.args.desk.now owner in
+    let failed = g.D.Answering.failed c.args.desk.now in
+    serves_as shows failed cs (λ x. AnswersImage cs c.args.name x c.args.image) c.args.asked _ c.tell.result c.in-Facts.is
+    (serves_told shows failed cs (TellsFacts c.args.image) c.tell.result c.tell.ensures.told was)
+
 pub returns-in-Submit-clause-closed : goal.returns-in-Submit-clause-closed
 returns-in-Submit-clause-closed g c was =
     let shut = c.take.ensures.closed was in
@@ -33,3 +41,7 @@ pub returns-in-Verdict-clause-closed : goal.returns-in-Verdict-clause-closed
 returns-in-Verdict-clause-closed g c was =
     let shut = c.judge.ensures.closed was in
     (closed_as (λ x owner cs. AnswersImage cs c.args.name x c.args.image) c.args.asked _ c.judge.result c.in-Verdict.is shut.0, shut.1)
+
+pub returns-in-Facts-clause-closed : goal.returns-in-Facts-clause-closed
+returns-in-Facts-clause-closed g c was =
+    (closed_as (λ x owner cs. AnswersImage cs c.args.name x c.args.image) c.args.asked _ c.tell.result c.in-Facts.is (closed_told (TellsFacts c.args.image) c.tell.result c.tell.ensures.told), refl)

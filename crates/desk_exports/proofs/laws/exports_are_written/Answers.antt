@@ -2,12 +2,12 @@
 use Rattle.std.specs.Prelude.{refl}
 use Rattle.std.specs.Fmt.{digits}
 use Rattle.hex.specs.Hex.{encode_with}
-use Rattle.desk_exports.specs.Worked.{ExportsDb, ExportsImpact, ExportsImport, ExportsInOrder, ExportsLevels, ExportsMinutes, ExportsNothing, ExportsProposals, ExportsReports}
+use Rattle.desk_exports.specs.Worked.{ExportsDb, ExportsImpact, ExportsImport, ExportsInOrder, ExportsLevels, ExportsMinutes, ExportsNothing, ExportsProposals, ExportsReports, ExportsShim}
 use Rattle.desk_exports.proofs.laws.exports_are_written.Goals as goal
 
 nothing_computed : ExportsNothing
 unfolding digits encode_with
-nothing_computed = (refl, refl, refl, refl)
+nothing_computed = (refl, refl, refl, refl, refl)
 
 pub returns-clause-nothing : goal.returns-clause-nothing
 returns-clause-nothing c = nothing_computed
@@ -25,6 +25,13 @@ import_computed = refl
 
 pub returns-clause-import : goal.returns-clause-import
 returns-clause-import c = import_computed
+
+shim_computed : ExportsShim
+unfolding digits encode_with
+shim_computed = (refl, refl)
+
+pub returns-clause-shim : goal.returns-clause-shim
+returns-clause-shim c = shim_computed
 
 proposals_computed : ExportsProposals
 unfolding digits encode_with

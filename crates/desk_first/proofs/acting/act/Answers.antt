@@ -1,4 +1,4 @@
-use Rattle.std.proofs.Common.{subst, arith}
+use Rattle.std.proofs.Common.{◌≡◌, true, false, rules, subst, arith}
 use Rattle.sqlite.specs.Held.{state}
 use Rattle.sqlite.specs.State.{HasCleanDisk}
 use Rattle.desk_texts.specs.declared.command.Call.{Call}
@@ -9,14 +9,23 @@ use Rattle.desk_history.specs.Writes.{all_written}
 use Rattle.desk_texts.specs.declared.command.Command.TheVariants as command
 use Rattle.store_views.specs.remembered.Current.{StaysCurrent}
 use Rattle.store_views.proofs.SizeLemmas.{enough}
+use Rattle.desk_first.specs.Acts.{FollowsInside}
 use Rattle.desk_first.specs.Steps.{with_first_calls}
-use Rattle.desk_first.proofs.ActingLemmas.{follows_inside}
+use Rattle.desk_first.proofs.ActingLemmas.{follows_inside, no_reply, other_reply}
 use Rattle.desk_first.proofs.acting.act.Goals as goal
 
 pub returns-in-Ok-None-clause-value : goal.returns-in-Ok-None-clause-value
 returns-in-Ok-None-clause-value g c clean inside p sees =
     let none = rw c.in-Ok-None.field-0-is at c.in-Ok-None.ensures.other in
-    none p.owner p.calls p.history.legal p.first (c.in-Ok.ensures.shown clean inside p sees)
+    no_reply _ c.args.told.now (none p.owner p.calls p.history.legal p.first (c.in-Ok.ensures.shown clean inside p sees))
+
+-- accepted with another reply
+pub returns-then-not-is_same_reply-clause-value : goal.returns-then-not-is_same_reply-clause-value
+returns-then-not-is_same_reply-clause-value g c clean inside p sees =
+    let accepts = rw c.in-Ok-Some.field-0-is at c.in-Ok-Some.ensures.taken in
+    let differs : c.is_same_reply.result ≡ false = search (rules, c.if-not-is_same_reply.true) in
+    other_reply _ c.in-Ok-Some.changes.reply c.args.told.now (accepts p.owner p.calls p.history.legal p.first (c.in-Ok.ensures.shown clean inside p sees)).accepted
+    (c.is_same_reply.ensures.differ differs)
 
 pub returns-in-Ok-write_first-clause-value : goal.returns-in-Ok-write_first-clause-value
 returns-in-Ok-write_first-clause-value g c clean inside =
@@ -37,5 +46,7 @@ returns-in-Ok-write_first-clause-value g c clean inside =
     subst (λ ws. Changes desk_layout contents read last (λ t. with_first_calls calls (all_written ws t))) c.deref-2.ensures.value (wrote.value clean viewed.inside) in
     let stays : StaysCurrent r call.command changes.writes.items later = subst (λ (d : Call). StaysCurrent r d.command changes.writes.items later) c.call.view_is
     (subst (λ ws. StaysCurrent r c.call.inside.command.now ws later) c.deref.ensures.value c.after-later.ensures) in
-    follows_inside r call c.in-Ok.view first read last changes later calls viewed (seen.shown late inside) accepts stays
-    (λ t right known. (c.sizes-sizes.ensures t (command.Confirm 0) right (enough later.sizes (command.Confirm 0) known)).calls) change
+    let same : c.is_same_reply.result ≡ true = search (rules, c.if-not-is_same_reply.false) in
+    subst (λ reply. FollowsInside r call reply later first last) (c.is_same_reply.ensures.same same)
+    (follows_inside r call c.in-Ok.view first read last changes later calls viewed (seen.shown late inside) accepts stays
+    (λ t right known. (c.sizes-sizes.ensures t (command.Confirm 0) right (enough later.sizes (command.Confirm 0) known)).calls) change)

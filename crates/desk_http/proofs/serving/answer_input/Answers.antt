@@ -8,7 +8,7 @@ returns-in-Ok-Some-clause-answered g c = λ clean.
     let before = c.answer_due.ensures.before clean in
     input_is_served (g.R.Read.remaining c.args.reader.now) (g.D.Answering.shows c.args.desk.now) (g.D.Answering.shows c.read_due.new.desk)
     (g.D.Answering.shows c.answer_due.new.desk) (g.D.Answering.failed c.answer_due.new.desk) c.in-Ok-Some.due c.answer_due.result
-    (rw c.in-Ok-Some.field-0-is at (c.in-Ok-Some.ensures.asked before)) (c.in-Ok-Some.ensures.same before (λ e. cc)) (c.answer_due.ensures.served clean)
+    (rw c.in-Ok-Some.field-0-is at (c.in-Ok-Some.ensures.asked before)) (c.in-Ok-Some.ensures.desk.same before (λ e. cc)) (c.answer_due.ensures.served clean)
 
 pub returns-in-Ok-Some-clause-closed : goal.returns-in-Ok-Some-clause-closed
 returns-in-Ok-Some-clause-closed g c was =

@@ -4,4 +4,4 @@ use Rattle.http_requests.proofs.routing.add_requests.Goals as goal
 
 pub returns : goal.returns
 unfolding with_requests
-returns c = rw (c.in_ok-add_image-2.ensures, c.in_ok-add_image.ensures, c.in_ok-add_command-2.ensures, c.in_ok-add_command.ensures, c.in_ok-add_get.ensures, c.in_ok-add.ensures) refl
+returns c = rw (c.in_ok-add_image.ensures, c.in_ok-add_command-2.ensures, c.in_ok-add_command.ensures, c.in_ok-add_get.ensures, c.in_ok-add.ensures) refl

@@ -5,9 +5,9 @@ use Rattle.store_schema.proofs.SelectFacts as facts
 use Rattle.store_schema.specs.declared.selecting.TheConstants.{SELECT_CALLS}
 use Rattle.store_schema.specs.Tables.{desk_layout}
 use Rattle.store_schema.specs.rows.Histories.{rows_of}
+use Rattle.store_exports.proofs.AnsweredLemmas.{calls_are}
 use Rattle.store_impacts.specs.Steps.{Seen}
 use Rattle.store_impacts.specs.declared.passing.Pass.{Pass}
-use Rattle.store_impacts.proofs.CallLemmas.{answer_is}
 use Rattle.store_impacts.proofs.PassLemmas.{passed_rows}
 use Rattle.store_impacts.proofs.QueryLemmas.{never_spares, reads_calls}
 use Rattle.store_impacts.proofs.passing.touched.Goals as goal
@@ -18,7 +18,7 @@ returns-in-Ok-clause-ok g c clean owner cs history was =
     let new = state g.S.Store c.stream.new.conn in
     let it = c.in-Ok.ensures.value clean in
     let early : HasCleanDisk old = omega (arith, c.in-Ok.ensures.survives.clean, clean) in
-    let rows = answer_is old new it.answer early (c.in-Ok.ensures.opened clean) it.exact owner cs was in
+    let rows = calls_are old new it.answer early (c.in-Ok.ensures.opened clean) it.exact owner cs was in
     let seen = passed_rows (λ (p : Pass _). p.entries.now) g.E.Standing.standing (λ (p : Pass _). record { requests = p.requests; kept = p.kept.items }) cs history.formed
     it.answer rows _ c.stream.new.taker it.handed (ap (λ l. record { requests = 0; kept = l }) c.new.ensures.items) in
     ap (λ (s : Seen). s.kept) seen

@@ -2,10 +2,12 @@ use Rattle.std.proofs.Common.{◌≡◌, ◌≢◌, ℕ, List, Err, false, rules
 use Rattle.std.specs.Io.KnownBytes.{Appends}
 use Rattle.desk_bytes.specs.Output.{AppendsBeginning}
 use Rattle.desk_history.specs.Calls.{History}
+use Rattle.desk_history.specs.Formed.{IsHistory}
 use Rattle.desk_history.specs.Level.{stamp}
 use Rattle.desk_exports.specs.Exports.{exported}
 use Rattle.desk_exports.specs.declared.export.Export.{Export}
-use Rattle.store_exports.specs.Exporting.{exported_with}
+use Rattle.desk_exports.specs.declared.export.Export.TheVariants as exports
+use Rattle.store_exports.specs.Exporting.{Suits, exported_with}
 use Rattle.store_exports.proofs.StampLemmas.{exported_by_stamp}
 use Rattle.desk_bytes.specs.declared.refusal.Refusal.TheVariants as refusals
 use Rattle.desk_store.specs.declared.desk.Desk.{Desk}
@@ -15,6 +17,14 @@ use Rattle.desk_store.proofs.desk.Desk.export.Goals as goal
 -- with the owner and the stamp that the desk has, an export is that of the history
 of_desk : (what : Export) (own owner : List ℕ) (now : ℕ) (cs : History) → own ≡ owner → now ≡ stamp cs → exported_with what own now cs ≡ exported what owner cs
 of_desk what own owner now cs same is = exported_by_stamp what own now cs is ∙ ap (λ o. exported what o cs) same
+
+-- a desk's history suits each export
+suits : (what : Export) (cs : History) → IsHistory cs → Suits what cs
+suits exports.Db cs h = tt
+suits exports.Dbx cs h = tt
+suits exports.Shim cs h = h.formed
+suits exports.Level cs h = tt
+suits exports.Minutes cs h = tt
 
 pub returns-in-Ok-clause-same : goal.returns-in-Ok-clause-same
 returns-in-Ok-clause-same g c clean other owner cs was =
@@ -40,10 +50,10 @@ pub returns-in-Ok-clause-ok : goal.returns-in-Ok-clause-ok
 returns-in-Ok-clause-ok g c clean owner cs was =
     let desk = c.args.self.now in
     subst (Appends (g.W.Write.contents c.args.writer.now) (g.W.Write.contents c.export.new.writer)) (of_desk c.args.what desk.owner owner desk.remembered.stamp cs was.own was.remembered.stamp)
-    (c.in-Ok.ensures.ok clean owner cs was.shows)
+    (c.in-Ok.ensures.ok clean owner cs (suits c.args.what cs was.history) was.shows)
 
 pub returns-in-Err-clause-beginning : goal.returns-in-Err-clause-beginning
 returns-in-Err-clause-beginning g c clean owner cs was =
     let desk = c.args.self.now in
     subst (AppendsBeginning (g.W.Write.contents c.args.writer.now) (g.W.Write.contents c.export.new.writer)) (of_desk c.args.what desk.owner owner desk.remembered.stamp cs was.own was.remembered.stamp)
-    (c.in-Err.ensures.beginning clean owner cs was.shows)
+    (c.in-Err.ensures.beginning clean owner cs (suits c.args.what cs was.history) was.shows)

@@ -1,10 +1,8 @@
-use Rattle.std.proofs.Common.{◌≡◌, sym, subst, Ok, Err, rules}
-use Rattle.desk_history.specs.People.{people}
+use Rattle.std.proofs.Common.{◌≡◌, Ok, Err, rules}
 use Rattle.desk_history.specs.ProposalShown.{proposal_for}
 use Rattle.store_reads.specs.Failures.{IsFailure}
-use Rattle.store_reads.specs.People.{IsOneOf}
 use Rattle.desk_store.proofs.RefusalLemmas.{proposal_told}
-use Rattle.desk_store.proofs.PersonLemmas.{reads_taken, without_person}
+use Rattle.desk_store.proofs.PersonLemmas.{asked, reads_taken}
 use Rattle.desk_store.proofs.OfficerLemmas.{same_err, same_ok}
 use Rattle.desk_store.proofs.desk.Desk.proposal.Goals as goal
 
@@ -13,14 +11,14 @@ returns-in-Ok-clause-shown g c clean =
     let old = c.args.self.now in
     let taken = c.take-person in
     same_ok g.S.Store old (λ cs. proposal_for cs c.args.caller.now c.args.number) c.in-Ok.given
-    (λ owner cs was. subst (λ who. proposal_for cs who c.args.number ≡ c.in-Ok.given) (sym c.in-Person.is) (c.in-Ok.ensures.shown clean owner cs (without_person g.S.Store old taken.new.self taken.ensures.after owner cs was) (subst (λ o. IsOneOf o (people cs)) (sym taken.ensures.value) was.remembered.person)))
+    (asked g.S.Store old taken.ensures.after taken.ensures.value c.in-Person.is (λ who owner cs. proposal_for cs who c.args.number ≡ c.in-Ok.given) (c.in-Ok.ensures.shown clean))
 
 pub returns-in-Ok-clause-refused : goal.returns-in-Ok-clause-refused
 returns-in-Ok-clause-refused g c clean =
     let old = c.args.self.now in
     let taken = c.take-person in
     same_err g.S.Store old (λ cs. proposal_for cs c.args.caller.now c.args.number) c.in-Ok.given
-    (λ owner cs was. subst (λ who. proposal_for cs who c.args.number ≡ c.in-Ok.given) (sym c.in-Person.is) (c.in-Ok.ensures.shown clean owner cs (without_person g.S.Store old taken.new.self taken.ensures.after owner cs was) (subst (λ o. IsOneOf o (people cs)) (sym taken.ensures.value) was.remembered.person)))
+    (asked g.S.Store old taken.ensures.after taken.ensures.value c.in-Person.is (λ who owner cs. proposal_for cs who c.args.number ≡ c.in-Ok.given) (c.in-Ok.ensures.shown clean))
 
 pub returns-in-Ok-clause-reads : goal.returns-in-Ok-clause-reads
 returns-in-Ok-clause-reads g c =

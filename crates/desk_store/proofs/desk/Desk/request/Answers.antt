@@ -1,10 +1,8 @@
-use Rattle.std.proofs.Common.{sym, subst, Ok, Err, rules}
-use Rattle.desk_history.specs.People.{people}
+use Rattle.std.proofs.Common.{Ok, Err, rules}
 use Rattle.desk_history.specs.Shown.{IsGiven, IsShown, request_for}
 use Rattle.store_reads.specs.Failures.{IsFailure}
-use Rattle.store_reads.specs.People.{IsOneOf}
 use Rattle.desk_store.proofs.RefusalLemmas.{request_told}
-use Rattle.desk_store.proofs.PersonLemmas.{reads_taken, without_person}
+use Rattle.desk_store.proofs.PersonLemmas.{asked, reads_taken}
 use Rattle.desk_store.proofs.ShowingLemmas.{given_err, given_ok}
 use Rattle.desk_store.proofs.desk.Desk.request.Goals as goal
 
@@ -14,7 +12,7 @@ returns-in-Ok-clause-shown g c clean =
     let taken = c.take-person in
     let k = c.args.number in
     given_ok g.S.Store old (λ cs. request_for cs c.args.caller.now k) (λ cs. IsShown) c.in-Ok.given
-    (λ owner cs was. subst (λ who. IsGiven (request_for cs who k) c.in-Ok.given IsShown) (sym c.in-Person.is) (c.in-Ok.ensures.shown clean owner cs (without_person g.S.Store old taken.new.self taken.ensures.after owner cs was) (subst (λ o. IsOneOf o (people cs)) (sym taken.ensures.value) was.remembered.person)))
+    (asked g.S.Store old taken.ensures.after taken.ensures.value c.in-Person.is (λ who owner cs. IsGiven (request_for cs who k) c.in-Ok.given IsShown) (c.in-Ok.ensures.shown clean))
 
 pub returns-in-Ok-clause-refused : goal.returns-in-Ok-clause-refused
 returns-in-Ok-clause-refused g c clean =
@@ -22,7 +20,7 @@ returns-in-Ok-clause-refused g c clean =
     let taken = c.take-person in
     let k = c.args.number in
     given_err g.S.Store old (λ cs. request_for cs c.args.caller.now k) (λ cs. IsShown) c.in-Ok.given
-    (λ owner cs was. subst (λ who. IsGiven (request_for cs who k) c.in-Ok.given IsShown) (sym c.in-Person.is) (c.in-Ok.ensures.shown clean owner cs (without_person g.S.Store old taken.new.self taken.ensures.after owner cs was) (subst (λ o. IsOneOf o (people cs)) (sym taken.ensures.value) was.remembered.person)))
+    (asked g.S.Store old taken.ensures.after taken.ensures.value c.in-Person.is (λ who owner cs. IsGiven (request_for cs who k) c.in-Ok.given IsShown) (c.in-Ok.ensures.shown clean))
 
 pub returns-in-Ok-clause-reads : goal.returns-in-Ok-clause-reads
 returns-in-Ok-clause-reads g c =

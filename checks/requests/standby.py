@@ -1,0 +1,136 @@
+"""A desk is served while a standby follows its minutes; it is killed, and the standby serves: see ../standby.sh."""
+import os
+import random
+import subprocess
+import sys
+import threading
+import time
+
+from days import confirms, drops, named, proposes, returns, reviews, submits, takes
+from desk import CERTIFICATE, OWNER, PEOPLE, PLAIN, SIGNED, Program, Server, changed, expect, fail, sha256, token
+
+ROOT = os.path.dirname(os.path.dirname(os.path.dirname(os.path.abspath(__file__))))
+ROUNDS = 120
+# Between two commands, so that the day is longer than the standby's first runs.
+PAUSE = 0.01
+
+
+def day():
+    """The commands of a day, each with its reply, in order: requests, votes, returned files, revocations that two officers decide."""
+    steps = [takes("olga", "list", "/db/certificates", CERTIFICATE, {"reply": "listed"})]
+    for number in range(1, ROUNDS + 1):
+        place = (600, f"{number:06x}")
+        image, signed = changed(PLAIN, place), changed(SIGNED, place)
+        steps += [
+            submits("ann", f"s{number}", image, f"grub2 2.12-{number}", number),
+            reviews("rita", f"y{number}", number, "yes", "open"),
+            reviews("raul", f"z{number}", number, "yes", "approved"),
+            returns("sid", f"r{number}", number, signed),
+            proposes("olga", f"d{number}", "/dbx/digests", named(sha256(b"%d" % number)), number),
+        ]
+        steps.append(drops("otto", f"c{number}", number) if number % 7 == 0 else confirms("otto", f"c{number}", number, 1, 0, 0, 0))
+    return steps
+
+
+class Standby:
+    """A copy that follows the desk at a port, once a second, until it is told to end."""
+
+    def __init__(self, program, port):
+        self.program, self.db, self.minutes = program, program.at("standby.db"), program.at("standby.minutes")
+        key = program.file("reader.token", token("olga").encode() + b"\n")
+        os.chmod(key, 0o600)
+        self.words = [
+            f"{ROOT}/packaging/desk-standby", self.db, self.minutes, "--owner", OWNER, "--url", f"http://127.0.0.1:{port}", "--token-file", key,
+            "--program", program.path,
+        ]
+        self.ends, self.runs = threading.Event(), 0
+        self.thread = threading.Thread(target=self.follow, daemon=True)
+        self.thread.start()
+
+    def once(self):
+        return subprocess.run([sys.executable, "-IB", *self.words], capture_output=True, timeout=300, check=False)
+
+    def follow(self):
+        while not self.ends.is_set():
+            done = self.once()
+            if done.returncode:
+                break
+            self.runs += 1
+            self.ends.wait(1)
+
+    def let_go(self):
+        self.ends.set()
+        self.thread.join()
+
+
+def kills(server, standby):
+    """Kills the server at some moment after the standby has followed twice."""
+    while standby.runs < 2 and standby.thread.is_alive():
+        time.sleep(0.01)
+    time.sleep(random.random())
+    server.process.kill()
+
+
+def works(server, steps, standby=None):
+    """The steps in order, each with its reply; how many were answered when the server was killed, if a standby follows it."""
+    killer = None
+    if standby is not None:
+        killer = threading.Thread(target=kills, args=(server, standby), daemon=True)
+        killer.start()
+    for at, step in enumerate(steps):
+        if killer is not None:
+            time.sleep(PAUSE)
+        try:
+            answer = server.ask(step.given)
+        except OSError:
+            answer = b""
+        if answer != step.due:
+            if killer is None or answer:
+                expect(answer, step.due, f"step {at + 1}")
+            killer.join()
+            return at
+    if killer is not None:
+        fail("the day ended before the machine was killed: it needs more rounds")
+    return len(steps)
+
+
+def main():
+    steps = day()
+    with Program(sys.argv[1]) as program:
+        lost, whole = program.founded("lost.db"), program.founded("whole.db")
+        with Server(program, whole) as server:
+            works(server, steps)
+        wanted = program.exports(whole)
+        # The machine is killed in the middle of a request, whenever that is.
+        with Server(program, lost) as server:
+            standby = Standby(program, server.port)
+            answered = works(server, steps, standby)
+            server.process.wait()
+            standby.let_go()
+        # The last minutes that were fetched are followed to their end; what was fetched of one line more isn't one.
+        with open(standby.minutes, "rb+") as file:
+            data = file.read()
+            file.truncate(data.rfind(b"\n") + 1)
+        told = program.gives("follow", standby.db, OWNER, standby.minutes)
+        lines = data.count(b"\n")
+        if not told.startswith(b"calls %d\n" % lines):
+            fail(f"follow of {lines} lines told {told!r}")
+        followed = lines - len(PEOPLE)
+        if standby.runs < 2 or followed < 1:
+            fail(f"the standby followed {standby.runs} times, {followed} commands")
+        # At most the one that was under way is there without an answer.
+        committed = program.minutes(lost).count(b"\n") - len(PEOPLE)
+        if committed - answered not in (0, 1):
+            fail(f"{committed} commands stand in the file of the killed desk, and {answered} were answered")
+        # It serves. Everybody repeats what was answered in the last seconds, and goes on with the day.
+        with Server(program, standby.db) as server:
+            works(server, steps[max(0, followed - 20) :])
+        expect(program.exports(standby.db), wanted, "the standby's exports at the day's end")
+        program.audited(wanted)
+        print(
+            f"{answered} of {len(steps)} commands were answered before the kill, and {followed} followed in {standby.runs} runs;"
+            f" the others were made again, and dbx, db, the level and the minutes are those of a desk that nobody killed"
+        )
+
+
+main()

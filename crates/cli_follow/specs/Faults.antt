@@ -1,0 +1,31 @@
+-- The rows of the table of refusals for a run of `follow`.
+use Rattle.std.specs.Prelude.{◌≡◌, ◌⊎◌, ℕ}
+use Rattle.desk_bytes.specs.declared.refusal.Refusal.{Refusal}
+use Rattle.desk_bytes.specs.declared.refusal.Refusal.TheVariants as refusals
+use Rattle.desk_audit.specs.Faults.{IsDeskFailure}
+use Rattle.desk_audit.specs.Watches.{IsReadFault}
+use Rattle.desk_audit.specs.declared.lines.LineWatch.{LineWatch}
+use Rattle.cli_audit.specs.Faults.{wrong_line}
+use Rattle.cli_lines.specs.Faults.{IsRow}
+use Rattle.cli_lines.specs.declared.fault.Fault.{Fault}
+use Rattle.cli_opening.specs.Faults.{IsFindingRefusal, IsOfOpening}
+
+-- own: the refusals that only the finding or making of a desk gives
+abbrev pub IsOfFinding : Refusal → Type 0
+IsOfFinding refusal = IsOfOpening refusal ⊎ ((refusal ≡ refusals.Exists) ⊎ (refusal ≡ refusals.File))
+
+-- own: a device failed the desk, a read of the watch failed, or the writer failed
+abbrev pub IsRunRefusal : LineWatch → Refusal → Type 0
+IsRunRefusal watch refusal = (IsDeskFailure refusal ⊎ IsReadFault watch refusal) ⊎ (refusal ≡ refusals.Write)
+
+-- own: a line is wrong, and the place is its number; or one of these refusals, without a place
+abbrev pub IsRunRow : LineWatch → Fault → Type 0
+IsRunRow watch fault = ((n : ℕ) × (fault ≡ wrong_line n)) ⊎ IsRow (IsRunRefusal watch) fault
+
+-- own: no desk is found or made, or it has another owner
+abbrev pub IsUnrunRefusal : Refusal → Type 0
+IsUnrunRefusal refusal = IsFindingRefusal refusal ⊎ (refusal ≡ refusals.Owner)
+
+-- own: the rows for `follow`
+abbrev pub IsFollowRow : LineWatch → Fault → Type 0
+IsFollowRow watch fault = IsRow IsUnrunRefusal fault ⊎ IsRunRow watch fault

@@ -1,0 +1,170 @@
+//! Minutes of an input, followed on the desk in a file. Only `follow_input` names the system's
+//! files, whose types are costly to prove with.
+ghost use Rattle.std.specs.Prelude.{◌≡◌, ◌⊎◌, None, IfErr, IfOk, IfSome, OnErr, OnOk};
+ghost use Rattle.sqlite.specs.Held.{state};
+ghost use Rattle.desk_follow.specs.Runs.{LeavesRun};
+ghost use Rattle.cli_lines.specs.Faults.{IsRow};
+ghost use Rattle.cli_opening.specs.Faults.{IsClosingRefusal, IsLasting};
+ghost use Rattle.cli_follow.specs.Faults.{IsFollowRow, IsOfFinding, IsRunRefusal};
+ghost use Rattle.cli_follow.specs.Runs.{AtFoundOrMade, Follows, ForEachStart, IsUnfound, Runs};
+ghost use Rattle.cli_follow.specs.Runs.{RunsOn, Tells};
+
+use cli_audit::{LineWatch, row, say_told};
+use cli_lines::{Buffered, Ending, Fault, Outcome};
+use cli_opening::{Worked, close_after, open_or_make};
+use desk_bytes::{Guid, Refusal};
+use desk_follow::{Followed, follow, has_owner};
+use desk_store::Desk;
+use sqlite::{Alter, Connection, File, FileStore};
+use sqlite_disk::Disk;
+use std::alloc::Global;
+use std::io::{BufRead, BufReader, Read};
+
+/// Writes what is printed of a desk after a run, and returns the desk.
+fn tell<S: Alter + Drop, W: Buffered>(mut desk: Desk<S>, calls: u64, writer: &mut W) -> Worked<S>
+    ensures told { Tells S.Store desk result.desk calls
+        (W.contents writer.old) (W.contents writer.new) result.work }
+    ensures done { IfOk result.work (λ outcome. outcome ≡ Outcome.Done) }
+    ensures flushed { OnOk result.work (W.flushed writer.new) }
+{
+    match say_told(&mut desk, calls, writer) {
+        Ok(()) => Worked {
+            desk,
+            work: Ok(Outcome::Done),
+        },
+        Err(fault) => Worked {
+            desk,
+            work: Err(fault),
+        },
+    }
+}
+
+/// Follows minutes on an open desk, over any store, and writes the lines of an audit of it. A
+/// refusal returns the connection of a desk that was lost: its next opening finds what it stored.
+fn follow_and_tell<S: Alter + Drop, R: BufRead, W: Buffered>(
+    alloc: Global,
+    desk: Desk<S>,
+    reader: &mut R,
+    watch: &mut LineWatch,
+    writer: &mut W,
+) -> Result<Worked<S>, (Refusal, Connection<S>)>
+    ensures ran { IfOk result (λ worked. Runs S.Store desk worked.desk (R.remaining reader.old)
+        (W.contents writer.old) (W.contents writer.new) watch.new worked.work) }
+    ensures done { IfOk result (λ worked.
+        IfOk worked.work (λ outcome. outcome ≡ Outcome.Done)) }
+    ensures flushed { IfOk result (λ worked. OnOk worked.work (W.flushed writer.new)) }
+
+    ensures lost { IfErr result (λ e. ForEachStart S.Store desk (R.remaining reader.old)
+        (LeavesRun (state S.Store e.1))) }
+    ensures named { IfErr result (λ e. IsRunRefusal watch.new e.0) }
+    ensures silent { OnErr result (writer.new ≡ writer.old) }
+{
+    match follow(alloc, desk, reader, watch) {
+        Ok(run) => {
+            let Followed { desk, result } = run;
+            match result {
+                Ok(calls) => Ok(tell(desk, calls, writer)),
+                Err(fault) => Ok(Worked {
+                    desk,
+                    work: Err(row(fault)),
+                }),
+            }
+        }
+        Err(refused) => Err(refused),
+    }
+}
+
+/// Drops a connection without closing it: nothing is written.
+fn let_go<S: Alter + Drop>(conn: Connection<S>) {
+    let _ = conn;
+}
+
+/// The same over files, and closes the desk. One that was lost isn't closed.
+fn follow_and_close<D: Disk + Drop, R: BufRead, W: Buffered>(
+    alloc: Global,
+    desk: Desk<FileStore<D>>,
+    reader: &mut R,
+    watch: &mut LineWatch,
+    writer: &mut W,
+) -> Ending
+    ensures ran { RunsOn D.Disk desk (R.remaining reader.old)
+        (W.contents writer.old) (W.contents writer.new) watch.new result }
+    ensures done { IfOk result.work (λ outcome. outcome ≡ Outcome.Done) }
+    ensures flushed { OnOk result.work (W.flushed writer.new) }
+    ensures closing { IfSome result.closing (IsRow IsClosingRefusal) }
+    ensures let_go { IfErr result.work (λ fault. IsLasting fault.refusal → result.closing ≡ None) }
+{
+    match follow_and_tell(alloc, desk, reader, watch, writer) {
+        Ok(worked) => {
+            let Worked { desk, work } = worked;
+            close_after(desk, work)
+        }
+        Err((refusal, conn)) => {
+            let_go(conn);
+            Ending::without_desk(refusal)
+        }
+    }
+}
+
+/// The same, if the desk has this owner. If it has another, it is closed, and nothing is read.
+fn follow_on_desk<D: Disk + Drop, R: BufRead, W: Buffered>(
+    alloc: Global,
+    desk: Desk<FileStore<D>>,
+    owner: &Guid,
+    reader: &mut R,
+    watch: &mut LineWatch,
+    writer: &mut W,
+) -> Ending
+    ensures followed { Follows D.Disk owner.now (R.remaining reader.old)
+        (W.contents writer.old) (W.contents writer.new) watch.new result desk }
+    ensures owner { IfErr result.work (λ fault. fault.refusal ≡ Refusal.Owner
+        → (watch.new ≡ watch.old) × (writer.new ≡ writer.old)) }
+    ensures done { IfOk result.work (λ outcome. outcome ≡ Outcome.Done) }
+    ensures flushed { OnOk result.work (W.flushed writer.new) }
+    ensures closing { IfSome result.closing (IsRow IsClosingRefusal) }
+    ensures let_go { IfErr result.work (λ fault. IsLasting fault.refusal → result.closing ≡ None) }
+{
+    if has_owner(&desk, owner) {
+        follow_and_close(alloc, desk, reader, watch, writer)
+    } else {
+        close_after(desk, Err(Fault::from(Refusal::Owner)))
+    }
+}
+
+/// Follows the minutes of an input on the desk in a file, which is made if it is missing, and prints
+/// the lines of an audit of the desk. Takes memory for one line, and the store's.
+///
+/// The faults of the desk's file come first. Exists, File, NotADesk, Version: no desk is found in it
+/// or made. Owner: the desk has another. Minute: the place is the first line that isn't that of the
+/// desk, or what the rules give; a last line without a line break is such a line. Read: a read
+/// failed, or was interrupted. Write: all was followed, and a prefix of the lines may be written.
+pub fn follow_input<R: Read + Drop, W: Buffered>(
+    rt: &HostRuntime,
+    db: &str,
+    owner: &Guid,
+    reader: R,
+    watch: &mut LineWatch,
+    writer: &mut W,
+) -> Ending
+    ensures followed { (IsUnfound result × (watch.new ≡ watch.old) × (writer.new ≡ writer.old))
+        ⊎ AtFoundOrMade owner.now (Follows ⟦<File as Disk>⟧ owner.now (R.remaining reader)
+        (W.contents writer.old) (W.contents writer.new) watch.new result) }
+    ensures done { IfOk result.work (λ outcome. outcome ≡ Outcome.Done) }
+    ensures flushed { OnOk result.work (W.flushed writer.new) }
+    ensures named { IfErr result.work (IsFollowRow watch.new) }
+    ensures first { IfErr result.work (λ fault. IsOfFinding fault.refusal
+        → (result.closing ≡ None) × (watch.new ≡ watch.old) × (writer.new ≡ writer.old)) }
+    ensures owner { IfErr result.work (λ fault. fault.refusal ≡ Refusal.Owner
+        → (watch.new ≡ watch.old) × (writer.new ≡ writer.old)) }
+    ensures closing { IfSome result.closing (IsRow IsClosingRefusal) }
+    ensures let_go { IfErr result.work (λ fault. IsLasting fault.refusal → result.closing ≡ None) }
+{
+    let mut reader = match BufReader::new(rt.alloc(), reader) {
+        Ok(reader) => reader,
+        Err(_) => return Ending::without_desk(Refusal::NoMemory),
+    };
+    match open_or_make(rt, db, owner) {
+        Ok(desk) => follow_on_desk(rt.alloc(), desk, owner, &mut reader, watch, writer),
+        Err(refusal) => Ending::without_desk(refusal),
+    }
+}

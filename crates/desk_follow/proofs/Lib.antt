@@ -1,0 +1,6 @@
+pub mod ComparingLemmas
+mod EventLemmas
+mod LivingLemmas
+mod RestartLemmas
+pub mod RunLemmas
+mod SeriesLemmas

@@ -1,0 +1,16 @@
+use Rattle.desk_bytes.specs.declared.refusal.Refusal.TheVariants as refusals
+use Rattle.std.proofs.Common.{◌≡◌, sym}
+use Rattle.desk_audit.proofs.FollowingLemmas.{desk_failed}
+use Rattle.desk_follow.proofs.ComparingLemmas.{no_store}
+use Rattle.desk_follow.proofs.running.counted.Goals as goal
+
+pub returns-in-Ok-clause-exact : goal.returns-in-Ok-clause-exact
+returns-in-Ok-clause-exact g c clean owner cs shown = sym (c.in-Ok.ensures.shown clean owner cs shown).calls
+
+pub returns-in-Ok-clause-same : goal.returns-in-Ok-clause-same
+returns-in-Ok-clause-same g c clean = c.in-Ok.ensures.reads.same clean (no_store c.in-Ok.counts)
+
+pub returns-in-Err-clause-named : goal.returns-in-Err-clause-named
+returns-in-Err-clause-named g c =
+    desk_failed c.args.desk.now.needs_reopening c.in-Err.refusal c.in-Err.ensures.reads.named
+    (λ closed. (let e = (c.in-Err.ensures.reads.closed closed).0 in let same : c.in-Err.refusal ≡ refusals.Reopen = cc in same))

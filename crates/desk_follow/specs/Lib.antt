@@ -1,0 +1,5 @@
+pub mod Comparing
+pub mod Living
+pub mod Restarting
+pub mod Runs
+pub mod Series

@@ -1,5 +1,0 @@
-//! Tests of connections over the loopback.
-#![tactic(auto)]
-
-#[cfg(test)]
-mod tests;

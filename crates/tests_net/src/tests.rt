@@ -1,4 +1,0 @@
-//! Connections, one after another.
-mod clients;
-mod serving;
-mod slow_peers;

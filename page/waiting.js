@@ -1,0 +1,69 @@
+// What waits for the person, as a count in the window's title: asked for once a minute while the page
+// is open, and behind each command.
+
+import { get, pause } from './api.js';
+import { titled } from './dom.js';
+import { me } from './session.js';
+
+/** How long is waited between two looks, in milliseconds; and at least so many times what an answer took. */
+const MINUTE = 60000;
+const REST = 100;
+
+let turn = 0;
+/** How one's own requests were when they were last looked at. @type {Map<number, string> | null} */
+let before = null;
+/** @type {Map<number, string>} */
+let now = new Map();
+
+/** Looks from now on, until the sign-out. */
+export async function beginWaiting() {
+    const mine = ++turn;
+    while (mine === turn) {
+        const begun = Date.now();
+        await count();
+        await pause(Math.max(MINUTE, REST * (Date.now() - begun)));
+    }
+}
+
+/** Looks no more: the person signs out. */
+export function endWaiting() {
+    turn += 1;
+    before = null;
+    now = new Map();
+    titled('Kovelamiru', 0);
+}
+
+/** The person looks at the requests: none of them has changed since. */
+export function looked() {
+    before = before && now;
+    if (me.submitter && !me.reviewer) titled(undefined, 0);
+}
+
+/** Looks once. An answer that doesn't come leaves the count as it was. */
+export async function count() {
+    const mine = turn;
+    const answer = await get(me.officer ? '/proposals' : '/requests');
+    if (answer.kind !== 'value' || mine !== turn) return;
+    titled(undefined, (me.officer ? proposals : requests)(answer.value));
+}
+
+/** @param {import('./proposals.js').Proposal[]} all */
+function proposals(all) {
+    return all.filter((it) => it.state === 'open' && it.officer !== me.name).length;
+}
+
+/** @param {import('./requests.js').Request[]} all */
+function requests(all) {
+    const own = all.filter((it) => it.submitter === me.name);
+    now = new Map(own.map((it) => [it.number, `${it.state} ${it.votes.map((vote) => vote.reviewer + vote.vote)}`]));
+    before ??= now;
+    const changed = own.filter((it) => (before?.get(it.number) ?? 'open ') !== now.get(it.number)).length;
+    return changed + all.filter(waits).length;
+}
+
+/** Whether a request waits for this person. @param {import('./requests.js').Request} it */
+function waits(it) {
+    if (me.signer) return it.state === 'approved';
+    if (!me.reviewer || it.state !== 'open') return false;
+    return it.submitter !== me.name && !it.votes.some((vote) => vote.reviewer === me.name);
+}
