@@ -67,7 +67,7 @@ pub(super) fn does_each<S: Alter + Drop>(
     Some(true)
 }
 
-/// All exports of the desk, one after another: its minutes, dbx, db and level.
+/// All exports of the desk, one after another: its minutes, dbx, its dbx for shim, db and level.
 pub(super) fn exports<S: Alter + Drop>(alloc: Global, desk: &mut Desk<S>) -> Option<Vec<u8>> {
     let mut bytes = Vec::new(alloc);
     for what in [

@@ -163,11 +163,12 @@ fn put_dbx(dbx: &mut Vec<u8>) -> Result<(), AllocError> {
     Ok(())
 }
 
-/// The exports that its desk must have: its minutes, its dbx, nothing for db, and the level of a
-/// new desk.
+/// The exports that its desk must have: its minutes, its dbx, the same bytes for shim (digests
+/// alone are revoked), nothing for db, and the level of a new desk.
 pub(super) fn first_exports(alloc: Global) -> Result<Vec<u8>, AllocError> {
     let mut bytes = Vec::new(alloc);
     put_minutes(alloc, &mut bytes)?;
+    put_dbx(&mut bytes)?;
     put_dbx(&mut bytes)?;
     bytes.extend_from_slice(NEW_LEVEL)?;
     Ok(bytes)
