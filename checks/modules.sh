@@ -1,9 +1,9 @@
 #!/bin/sh
 # The page's modules without a browser: what they make of each file of checks/imports/cases.json, and
-# of each beginning of it; that a command acts once, whatever comes in place of an answer; that
-# nothing of one person reaches the next; what they ask about, as checks/imports/doubts.json has it;
-# what they say of images and certificates at hand, as looks.json has it; and minutes in words, as
-# checks/minutes/cases.json has them. It needs node and openssl.
+# of each beginning of it; that a command takes effect once, whatever comes in place of an answer;
+# that nothing of one person reaches the next; what they ask about, as checks/imports/doubts.json
+# has it; what they say of images and certificates at hand, as looks.json has it; and minutes in
+# words, as checks/minutes/cases.json has them. It needs node and openssl.
 set -eu
 . "$(dirname -- "$(readlink -f -- "$0")")/common.sh"
 needs node openssl

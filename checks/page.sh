@@ -6,10 +6,10 @@
 #   day   a whole day is done through the page alone, by each role; its minutes are those of the same
 #         day by curl, except for the keys; each view is looked at for names of controls, contrast of
 #         each pair of colours, sizes and widths
-#   bad   what mustn't work: a wrong token, titles that look like markup, pages of another origin; lost
-#         answers act once, whatever a proxy says behind them; an upload is stopped; slips are asked
-#         back about; files that can't be imported are refused in words; a request is reviewed by
-#         keyboard alone
+#   bad   what mustn't work: a wrong token, titles that look like markup, pages of another origin;
+#         commands whose answers are lost take effect once, whatever a proxy says behind them; an
+#         upload is stopped; slips are asked back about; files that can't be imported are refused in
+#         words; a request is reviewed by keyboard alone
 #   looks  a certificate to be listed (elliptic, a CA's, revoked, of a revoked issuer), a file beside a
 #         request, a proposal's images and who is signed in, with a file that is no image each
 #   people  a Confirm goes out only if it does what was shown; nothing of one person is left for the

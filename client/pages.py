@@ -54,8 +54,8 @@ into a journal before the request goes out, and taken off when its answer has be
 no answer comes (the connection fails, the proxy says 408, 429, 500, 502, 503 or 504, the desk has
 no memory) deskctl asks again with the same key, with growing pauses. If it gives up or is ended,
 the next run of the same command (the same desk, caller, words and files) takes that key, and says
-so. So a command acts once, whatever was lost. A refusal ends that, unless an answer was lost
-before and the refusal says nothing of it, as one of the proxy's, or a certificate that isn't
+so. So a command takes effect once, whatever was lost. A refusal ends that, unless an answer was
+lost before and the refusal says nothing of it, as one of the proxy's, or a certificate that isn't
 trusted. `--new-key` forgets the key, and the run is another command. `deskctl pending` lists the
 journal. Two runs of the same command at once follow one another.
 

@@ -68,14 +68,14 @@ export function lostBox(command) {
         p(
             strong(`${command.what}: no answer.`),
             ` ${lostWords(command.lost)} The desk may have accepted it or not.`,
-            ' Asking again is safe: it has the same key, so it acts once.',
+            ' Asking again is safe: it has the same key, so it takes effect once.',
         ),
         buttons(button('Ask again', () => command.askAgain(), 'main'), button('Give up', () => command.forget())));
 }
 
 /** @param {import('./keys.js').Command} command @param {boolean} sent */
 function stopped(command, sent) {
-    const open = 'The desk may have accepted it. Done again on this page, it has the same key, so it acts once.';
+    const open = 'The desk may have accepted it. Done again on this page, it has the same key, so it takes effect once.';
     return box(
         'care',
         p(

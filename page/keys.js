@@ -1,6 +1,6 @@
-// A command acts once. Its key is made with it and is sent with each try; it is kept until an answer
-// came that tells what the desk did. A lost answer is asked for again with the same key: by itself
-// three times, then by a button. Behind a lost answer a refusal by the proxy tells nothing, so it
+// A command takes effect once. Its key is made with it and is sent with each try; it is kept until
+// an answer came that tells what the desk did. A lost answer is asked for again with the same key:
+// by itself three times, then by a button. Behind a lost answer a refusal by the proxy tells nothing, so it
 // counts as lost too. A command that was given up without an answer leaves its key to the next one
 // that says the same.
 

@@ -1,4 +1,4 @@
-"""A run that is killed before each line of the journal's module: run again by whoever saw no status 0, each command acts once. One line is
+"""A run that is killed before each line of the journal's module: run again by whoever saw no status 0, each command takes effect once. One line is
 left: behind the journal's last step and before the end of the run, which follows at once."""
 from __future__ import annotations
 

@@ -123,7 +123,7 @@ def out_of_reach(program: Program) -> None:
 
 
 def each_length(program: Program) -> int:
-    """An answer that is cut after each of its bytes, a request after each of its: asked again with the same key, it acts once.
+    """An answer that is cut after each of its bytes, a request after each of its: asked again with the same key, it takes effect once.
 
     In this process, by deskctl's own way of asking, since these are some hundred tries."""
     api, journal = module("api"), module("journal")

@@ -111,7 +111,7 @@ def loses_answer(browser: Browser, place: Place) -> None:
 
 
 def lost(browser: Browser, place: Place) -> None:
-    """Answers are lost: the page asks again by itself, by a button, and, if it was given up, at the next vote; each acts once."""
+    """Answers are lost: the page asks again by itself, by a button, and, if it was given up, at the next vote; each takes effect once."""
     number, other = (place.does("ann", "/requests", unsigned(one), Desk_Title="to be voted on")["request"] for one in (103, 107))
     browser.sign_in(token("rita"))
     browser.go(f"requests/{number}")
@@ -145,7 +145,7 @@ def lost(browser: Browser, place: Place) -> None:
     loses_answer(browser, place)
     browser.sees("no answer.", 30)
     browser.press("Give up")
-    browser.sees("it has the same key, so it acts once")
+    browser.sees("it has the same key, so it takes effect once")
     place.start_proxy()
     browser.press("Vote yes")
     browser.sees("Your vote of yes is in.")
@@ -174,7 +174,7 @@ def refused_unread(browser: Browser, place: Place) -> None:
             # Once more unread, before it comes through.
             place.relay.plan = [NOT_FOUND] * 4
             browser.press(last)
-            browser.sees("it has the same key, so it acts once")
+            browser.sees("it has the same key, so it takes effect once")
             browser.press("Submit")
             browser.sees("no answer.", 20)
         browser.press("Ask again")

@@ -1,6 +1,6 @@
 // The page's modules without a browser: see ../modules.sh. The files of ../imports/cases.json are
-// read as the table has it, and so are a few of the page's own; a command acts once, whatever comes
-// in place of an answer.
+// read as the table has it, and so are a few of the page's own; a command takes effect once,
+// whatever comes in place of an answer.
 import assert from 'node:assert/strict';
 import { readFileSync } from 'node:fs';
 import { webcrypto } from 'node:crypto';
@@ -109,7 +109,7 @@ async function ownCertificates() {
     });
 }
 
-// ---- a command acts once
+// ---- a command takes effect once
 
 /** The answers that a proxy and a desk give to each try in turn, by status and text; 0 loses the connection. */
 class Line {

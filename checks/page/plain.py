@@ -58,7 +58,7 @@ def bad_days(program: Program, browser: Browser) -> str:
         told("strangers, titles and another origin")
         hostile.lost(browser, place)
         hostile.refused_unread(browser, place)
-        told("lost answers act once")
+        told("commands whose answers are lost take effect once")
         hostile.stopped(browser, place)
         hostile.slips(browser, place)
         told("a stopped upload, and slips that are asked back about")

@@ -23,8 +23,9 @@ ABOUT = """\
 Signing requests and revocations at a Kovelamiru desk, from a terminal and from build systems.
 deskctl decides nothing and checks no signature: the desk decides."""
 ONCE = """\
-A command acts once: its key is kept on this machine until its answer came. If none comes, run the
-same command again. What looks like a slip of the hand is asked about before anything is sent."""
+A command takes effect once: its key is kept on this machine until its answer came. If none comes,
+run the same command again. What looks like a slip of the hand is asked about before anything is
+sent."""
 
 
 def general_help() -> str:
@@ -193,7 +194,7 @@ def ran(arguments: Sequence[str], terminal: Terminal) -> int:
     except KeyboardInterrupt:
         terminal.warn(
             "\ndeskctl: interrupted. If a command was sent, run it again: it has the same key, so"
-            " it acts once."
+            " it takes effect once."
         )
         return 130
 
@@ -219,6 +220,6 @@ def main() -> int:
         # Python's own status would be 1, which says that the desk refused.
         terminal.warn(TOKEN.sub("(a token)", traceback.format_exc()))
         terminal.warn(
-            "deskctl: a fault of its own. If a command was sent, run it again: it acts once."
+            "deskctl: a fault of its own. If a command was sent, run it again: it takes effect once."
         )
         return LOST

@@ -1,4 +1,4 @@
-"""Commands that act once: a key is on the disk before it goes out, and goes once it is answered."""
+"""Commands that take effect once: a key is on the disk before it goes out, and goes once it is answered."""
 from __future__ import annotations
 
 import datetime
@@ -216,7 +216,7 @@ def exchange_all(
                 entry.done()
                 raise
             lost.more.append(
-                "Whether the desk took it isn't known. Run the same command again: it acts once."
+                "Whether the desk took it isn't known. Run the same command again: it takes effect once."
             )
             raise
         except Stop as stop:
@@ -230,7 +230,7 @@ def exchange_all(
             elif (taken or stop.tried) and not stop.settles():
                 stop.more.append(
                     "Whether the desk took an earlier try isn't known. Run the same command again:"
-                    " it acts once."
+                    " it takes effect once."
                 )
             else:
                 entry.done()
