@@ -220,6 +220,7 @@ def main() -> int:
         # Python's own status would be 1, which says that the desk refused.
         terminal.warn(TOKEN.sub("(a token)", traceback.format_exc()))
         terminal.warn(
-            "deskctl: a fault of its own. If a command was sent, run it again: it takes effect once."
+            "deskctl: a fault of its own. If a command was sent, run it again: it takes effect"
+            " once."
         )
         return LOST

@@ -1,4 +1,4 @@
-"""Commands that take effect once: a key is on the disk before it goes out, and goes once it is answered."""
+"""Commands that take effect once: a key is on the disk before it goes out, until it is answered."""
 from __future__ import annotations
 
 import datetime
@@ -216,7 +216,8 @@ def exchange_all(
                 entry.done()
                 raise
             lost.more.append(
-                "Whether the desk took it isn't known. Run the same command again: it takes effect once."
+                "Whether the desk took it isn't known. Run the same command again: it takes effect"
+                " once."
             )
             raise
         except Stop as stop:
