@@ -9,7 +9,7 @@ import threading
 from concurrent.futures import ThreadPoolExecutor
 from typing import NamedTuple
 
-from days import RETURNS, named, proposes
+from days import RETURNS, confirms, named, proposes
 from desk import (
     CERTIFICATE, NO_MEMORY, OWNER, PLAIN, SIGNED, STORED, TBS, X509_KIND, Program, authenticode, expect, fail, got, sha256, signature_list,
     text, with_text,
@@ -178,6 +178,7 @@ def cases():
     yield Case("dbx", ("dbx", "DESK"), b"", desk="people.db")
     listed = signature_list(X509_KIND, [CERTIFICATE])
     yield Case("db", ("db", "DESK"), listed, most=len(listed), desk="listed.db")
+    yield Case("shim", ("shim", "DESK"), listed, most=len(listed), desk="revoked.db")
     yield Case("verdict on a listed image", ("verdict", "DESK", image), b"allowed\n", most=8, desk="listed.db")
     bars = b"1\treturned\tsigned\tann\tallowed\tdbx-certificate\tA\ndbx 92\n"
     yield Case("impact", ("impact", "DESK", "1"), bars, status=1, most=len(bars), desk="proposed.db")
@@ -207,7 +208,10 @@ with Program(PROGRAM) as program:
     for step in RETURNS[:19]:
         expect(program.gives("answer", desk, given=step.given), step.due, "the desk of a listed image")
     step = proposes("olga", "k2", "/dbx/certificates", named(TBS), 1)
-    expect(program.gives("answer", program.copied(desk, "proposed.db"), given=step.given), step.due, "a proposal to revoke its certificate")
+    proposed = program.copied(desk, "proposed.db")
+    expect(program.gives("answer", proposed, given=step.given), step.due, "a proposal to revoke its certificate")
+    step = confirms("otto", "k1", 1, 0, 1, 0, 0)
+    expect(program.gives("answer", program.copied(proposed, "revoked.db"), given=step.given), step.due, "its Confirm")
     with ThreadPoolExecutor(len(os.sched_getaffinity(0))) as pool:
         try:
             refused, told = zip(*pool.map(lambda case: Refusing(program, case).each(), list(cases())))
