@@ -6,9 +6,10 @@
 # `N passed, M failed`, and the status is 1 if one failed. After twenty minutes none is started and
 # those still running are ended, as failed.
 #
-# They need bash, cc, chromium, chromium-driver, curl, dbxtool, dpkg-dev, efitools, git, groff, gzip,
-# man, mount, nginx, node, openssl, pyflakes3, python3, python3-selenium, rt, sbsigntool, setpriv,
-# sqlite3, ssh-keygen, unshare and xxd; a check without a tool that it needs fails and names it.
+# They need bash, cc, chromium, chromium-driver, curl, dbxtool, dpkg-dev, efitools, flock, git, groff,
+# gzip, man, mount, nginx, node, openssl, pyflakes3, python3, python3-selenium, rt, sbsigntool,
+# setpriv, sqlite3, ssh-keygen, taskset, unshare and xxd; a check without a tool that it needs fails
+# and names it.
 set -u
 . "$(dirname -- "$(readlink -f -- "$0")")/common.sh"
 find_program "$@"

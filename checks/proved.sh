@@ -1,5 +1,5 @@
 #!/usr/bin/env bash
-# That the documents claim nothing that isn't there. Proves nothing and runs no program: it reads the sources.
+# That the documents name nothing that isn't there. Proves nothing and runs no program: it reads the sources.
 #
 # A claim of docs/PROVED.md is a row of a table that begins `| Call | Clause |`. Its first cell has calls, each with its crate in front
 # (`desk_store::Desk::open`), and its second the names of clauses, in backticks; an empty second cell stands for a clause without a

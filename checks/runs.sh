@@ -66,8 +66,8 @@ run 1 nothing 'refused 15 List at 0' nothing list long
 truncate -s 8388609 text
 run 1 nothing 'refused 13 TooLong' text pack "$owner"
 
-# A desk is in the file at its path and in that file's log, and no other file is made. Only `init`
-# creates a file that doesn't exist.
+# A desk is in the file at its path and in that file's log, and no other file is made. `init` creates a
+# file that doesn't exist, and none of these others does.
 there() { find . -type f | LC_ALL=C sort; }
 mkdir desks
 echo ann-token-000001 > token

@@ -1,11 +1,11 @@
 #!/bin/sh
 # checks/soak.sh SECONDS [PROGRAM]: a desk that serves for SECONDS while clients are slow, silent,
 # broken, huge and many, and two officers go on working. It prints how many answers the officers
-# had, their longest wait and the most memory. It fails if an officer waits longer than the clients
-# before one may hold the desk (30 seconds each), if the desk takes more memory than an image's
-# limit and 64 MiB, or if its file then lacks an acknowledged command. The clients let go when SECONDS
-# end, so only a soak of some 90 or more can find too long a wait. Not part of the gate: it needs
-# python3 and sqlite3.
+# had, their longest wait and the most memory. It fails if an officer has another answer or waits
+# longer than the two clients before one may hold the desk (30 seconds each, and 15 more), if the desk
+# takes more memory than an image's limit and 64 MiB or ends, or if its file then lacks an acknowledged
+# command or isn't sound. The clients let go when SECONDS end, so only a soak of some 90 or more can
+# find too long a wait. Not part of the gate: it needs python3 and sqlite3.
 set -eu
 . "$(dirname -- "$(readlink -f -- "$0")")/common.sh"
 [ $# -gt 0 ] || { echo "usage: checks/soak.sh SECONDS [PROGRAM]" >&2; exit 2; }

@@ -1,9 +1,9 @@
 #!/bin/sh
 # Writes a day of a desk into a file with store_writes, and has sqlite3's own shell read it: its
 # integrity check, the schema, and every row. A taken name and a number past SQL's integers must be
-# refused. Not part of `rt ci`: it needs sqlite3. The program is built from the sources, unproved, in
-# a room of its own: three minutes of one processor. If $TABLES_ROOM names a folder, that is the room,
-# and it is kept.
+# refused. Not part of `rt ci`: it needs rt and sqlite3. The program is built from the sources,
+# unproved, in a room of its own: three minutes of one processor. If $TABLES_ROOM names a folder,
+# that is the room, and it is kept.
 set -eu
 . "$(dirname -- "$(readlink -f -- "$0")")/common.sh"
 needs rt sqlite3

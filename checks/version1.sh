@@ -1,11 +1,11 @@
 #!/usr/bin/env bash
-# checks/version1.sh [PROGRAM]: that each subcommand opens a real file of version 1
-# (examples/version-1), which keeps its calls and exports and becomes one of version 2; that the
-# next opening writes nothing; that earlier keys and revocations still count; that images of before
-# are in the impacts of new proposals; and that an audit passes its minutes, with calls of before and
-# new ones. A file with the same tables and rows, made in the opposite order, has the same exports,
-# and the same day at the served desk. PROGRAM: another program than ./desk. It needs gzip, python3
-# and sqlite3.
+# checks/version1.sh [PROGRAM]: that each subcommand with DB but `init`, `shim` and `follow` opens a
+# real file of version 1 (examples/version-1), which keeps its calls and exports and becomes one of
+# version 2; that the next opening writes nothing; that earlier keys and revocations still count;
+# that images of before are in the impacts of new proposals; and that an audit passes its minutes,
+# with calls of before and new ones. A file with the same tables and rows, made in the opposite
+# order, has the same exports, and the same day at the served desk. PROGRAM: another program than
+# ./desk. It needs gzip, python3 and sqlite3.
 set -eu
 . "$(dirname -- "$(readlink -f -- "$0")")/common.sh"
 needs gzip python3 sqlite3
