@@ -38,7 +38,7 @@ export const REFUSALS = {
         'The input passes a stated limit of size or count.',
         'An image has at most 128 MiB, 64 certificates and 256 components; a certificate 64 KiB; an import 10,000 entries: send it in parts.',
     ],
-    Read: ['A device: a read failed or was interrupted, or a port is taken.', RETRY],
+    Read: ['A device: a read failed or was interrupted, or a port can’t be opened.', RETRY],
     List: [
         'There is no signature list there. The place is its offset in bytes.',
         'Choose a file of signature lists without anything before them; deskctl takes headers off.',
@@ -58,7 +58,7 @@ export const REFUSALS = {
         'Check the token for missing characters. Only the desk’s administrator adds people.',
     ],
     NotYourRole: [
-        'The caller’s role has no such command.',
+        'The caller’s role has no such command or read.',
         'Somebody with that role has to do it; a role never changes.',
     ],
     KeyReused: [
@@ -66,7 +66,7 @@ export const REFUSALS = {
         'Begin the command again: the page then makes a new key.',
     ],
     NoSuchRequest: [
-        'No request that the caller may see has that number.',
+        'No request that the caller may see, or withdraw, has that number.',
         'Look for it in the list. Submitters see their own requests alone, and withdraw them alone.',
     ],
     WrongState: ['The request’s state doesn’t allow it.', 'Somebody may have been quicker: look at the request again.'],
@@ -93,7 +93,7 @@ export const REFUSALS = {
         'Look at the level under Lists, and choose a higher generation. That of sbat itself stays 1.',
     ],
     StampNotLater: [
-        'The stamp isn’t above the current one.',
+        'The stamp is missing, or isn’t above the current one.',
         'Give a stamp above the level’s: the date and two digits, as 2026112700. An import that raises a generation needs one too.',
     ],
     AlreadyListed: ['It is listed already.', 'There is nothing to do.'],
@@ -120,13 +120,13 @@ export const REFUSALS = {
     File: ['A device: a file can’t be opened, or is in use.', ADMIN],
     Exists: ['The database has a table, an index or a view with a name of the desk’s already, so no desk is made in it.', ADMIN],
     Minute: [
-        'A line of minutes isn’t what the rules give there, or isn’t whole. The place is its number from 1.',
+        'A line of minutes isn’t the desk’s, isn’t what the rules give there, or isn’t whole. The place is its number from 1.',
         'Fetch the minutes again, and compare them with other copies.',
     ],
     Owner: ['The desk in the database has another owner than the one given.', ADMIN],
-    BadHead: ['The head of an HTTP request is wrong, too long or cut short.', PAGE],
+    BadHead: ['The head of an HTTP request is wrong or too long, or the request is cut short.', PAGE],
     BadField: [
-        'A field of an HTTP request is wrong, or is given twice.',
+        'A field of an HTTP request is missing, wrong or given twice.',
         'A title has 1 to 120 characters of ASCII, a stamp ten digits.',
     ],
     BadBody: [

@@ -84,10 +84,10 @@ WHY: Dict[int, Tuple[str, str]] = {
             " prints."
         ),
     ),
-    21: ("your role has no such command", ""),
+    21: ("your role has no such command or read", ""),
     22: ("that key was used for another command", "Run it again with --new-key."),
     23: (
-        "there is no such request that you may see",
+        "there is no such request that you may see, or withdraw",
         "`deskctl requests` lists those that you may see.",
     ),
     24: ("the request's state doesn't allow it", ""),
@@ -99,7 +99,7 @@ WHY: Dict[int, Tuple[str, str]] = {
     ),
     28: (
         "the image is barred: revoked, or below the level",
-        "It stays revoked: build one with a higher generation, or sign with another certificate.",
+        "It stays barred: build a mended one; if a certificate bars it, sign with another.",
     ),
     29: (
         "neither its digest nor a certificate that it carries is listed",
@@ -111,7 +111,7 @@ WHY: Dict[int, Tuple[str, str]] = {
         "`deskctl get level` shows the current ones; sbat itself stays at 1.",
     ),
     32: (
-        "the stamp isn't above the current one",
+        "the stamp is missing, or isn't above the current one",
         "`deskctl get level` shows it; give a later one: --stamp YYYYMMDDNN",
     ),
     33: ("it is listed already", "Nothing is left to do."),
@@ -139,9 +139,12 @@ WHY: Dict[int, Tuple[str, str]] = {
         "Whoever keeps the desk takes a newer program.",
     ),
     45: ("a file can't be opened", "Is it there, and may it be read?"),
-    46: ("the database has tables already", "Whoever keeps the desk names a new file."),
+    46: (
+        "the database has a table, an index or a view with a name of the desk's",
+        "Whoever keeps the desk names a new file.",
+    ),
     47: (
-        "a line of minutes isn't what the rules give there, or isn't whole",
+        "a line of minutes isn't the desk's, isn't what the rules give there, or isn't whole",
         "Compare the copy with the desk's: deskctl minutes --into COPY",
     ),
     48: (
@@ -149,10 +152,10 @@ WHY: Dict[int, Tuple[str, str]] = {
         "Whoever keeps the desk gives the owner that `desk init` was given.",
     ),
     50: (
-        "the request's head is wrong or was cut",
+        "the request's head is wrong, or the request was cut",
         "A proxy changed it, or the connection was cut: run the same command again.",
     ),
-    51: ("a field of the request is wrong", ""),
+    51: ("a field of the request is missing, or wrong", ""),
     52: ("the JSON of the request is wrong", ""),
     53: (
         "the desk has no such resource",
