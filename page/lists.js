@@ -51,7 +51,7 @@ function downloads(now) {
         ),
         quiet(
             'dbx and db are EFI signature lists without a signature, to look at and to compare. ',
-            'What mirrors and machines get is made by desk-publish. A file without an entry has no bytes.',
+            'What mirrors and machines get is made by desk-publish. A list without an entry has no bytes.',
         ),
         said,
     );

@@ -91,7 +91,7 @@ function findings(it, now) {
     found.push(listing(it, now));
     if (it.components.length === 0) {
         found.push(['care', 'It has no SBAT component: no level can bar it, and as shim’s own second stage shim refuses it.']);
-    } else if (barred?.verdict !== 'sbat') {
+    } else if (!barred) {
         found.push(['good', 'Each of its components is at the level or above it, or isn’t in the level.']);
     }
     if (it.gap > 0) {

@@ -143,7 +143,8 @@ export function returnForm(it, again) {
     const go = h('button', { type: 'submit', class: 'main' }, 'Return it');
     return section('Return the signed file',
         p(
-            'The desk takes it if it is this image and carries a listed certificate. It checks no signature: run ',
+            'The desk takes it if it is this image, its digest or a certificate that it carries is listed, and nothing bars it. ',
+            'It checks no signature: run ',
             h('code', {}, 'sbverify'),
             ' first.',
         ),
