@@ -93,7 +93,8 @@ script preinst upgrade 0.0.9 0.1.0
 cmp -s "$state/desk.db" first/desk.db && fail 'the new program leaves the file as it was'
 diff -r first "$copies"/0.0.9-* > said || fail "the copy: $(cat said)"
 
-for link in multi-user.target.wants/kovelamiru-desk.service timers.target.wants/kovelamiru-publish.timer; do
+for link in multi-user.target.wants/kovelamiru-desk.service timers.target.wants/kovelamiru-publish.timer \
+    timers.target.wants/kovelamiru-standby.timer; do
     mkdir -p "$own/etc/systemd/system/${link%/*}"
     ln -s "/usr/lib/systemd/system/${link#*/}" "$own/etc/systemd/system/$link"
 done
