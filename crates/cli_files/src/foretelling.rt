@@ -13,7 +13,7 @@ use cli_lines::{Buffered, Ending};
 use cli_opening::{Room, Work, Worked, on_desk};
 use desk_store::Desk;
 use desk_texts::ProposalNumber;
-use sqlite::{Alter, File};
+use sqlite::{Alter, FileFrom, Start};
 use sqlite_disk::Disk;
 use std::marker::PhantomData;
 
@@ -52,14 +52,15 @@ impl<W: Buffered> Work for Foretelling<W> {
 /// The faults of the desk's file come first, as for `add_person`; then the refusal that the Confirm
 /// would get, then Store, Reopen or Write. Nothing is written but after Write, which may leave a
 /// prefix of the lines.
-pub fn foretell_from<W: Buffered>(
+pub fn foretell_from<S: Start, W: Buffered>(
     rt: &HostRuntime,
     path: &str,
+    start: S,
     number: ProposalNumber,
     writer: &mut W,
 ) -> Ending
     ensures foretold { (IsUnopened result × Keeps (W.contents writer.old) (W.contents writer.new))
-        ⊎ AtADesk (WritesImpact ⟦<File as Disk>⟧ number
+        ⊎ AtADesk (WritesImpact ⟦<FileFrom<S> as Disk>⟧ number
         (W.contents writer.old) (W.contents writer.new) result) }
     ensures flushed { OnOk result.work (W.flushed writer.new) }
     ensures named { IfErr result.work (IsRow (λ refusal.
@@ -73,5 +74,5 @@ pub fn foretell_from<W: Buffered>(
         number,
         writer: PhantomData,
     };
-    on_desk(rt, path, Room::AsItIs, foretelling, writer)
+    on_desk(rt, path, start, Room::AsItIs, foretelling, writer)
 }

@@ -6,17 +6,18 @@ use cli_opening::make_desk;
 use desk_bytes::{Guid, Refusal};
 use desk_exports::Export;
 use desk_texts::{Key, Person, ProposalNumber};
+use sqlite::Unknown;
 use std::io::BufWriter;
 
 /// Makes a desk: `make_desk`.
 pub fn run_init(rt: &HostRuntime, db: &str, owner: &Guid) -> Ending {
-    make_desk(rt, db, owner)
+    make_desk(rt, db, Unknown, owner)
 }
 
 /// Adds a person: `add_person`.
 pub fn run_add(rt: &HostRuntime, db: &str, key: Key, person: Person) -> Ending {
     match BufWriter::new(rt.alloc(), rt.stdout()) {
-        Ok(mut out) => add_person(rt, db, &key, person, &mut out),
+        Ok(mut out) => add_person(rt, db, Unknown, &key, person, &mut out),
         Err(_) => Ending::without_desk(Refusal::NoMemory),
     }
 }
@@ -24,7 +25,7 @@ pub fn run_add(rt: &HostRuntime, db: &str, key: Key, person: Person) -> Ending {
 /// Prints a verdict: `judge_image`.
 pub fn run_verdict(rt: &HostRuntime, db: &str, file: &str) -> Ending {
     match BufWriter::new(rt.alloc(), rt.stdout()) {
-        Ok(mut out) => judge_image(rt, db, file, &mut out),
+        Ok(mut out) => judge_image(rt, db, Unknown, file, &mut out),
         Err(_) => Ending::without_desk(Refusal::NoMemory),
     }
 }
@@ -32,7 +33,7 @@ pub fn run_verdict(rt: &HostRuntime, db: &str, file: &str) -> Ending {
 /// Prints the impact of a proposal: `foretell_from`.
 pub fn run_impact(rt: &HostRuntime, db: &str, number: ProposalNumber) -> Ending {
     match BufWriter::new(rt.alloc(), rt.stdout()) {
-        Ok(mut out) => foretell_from(rt, db, number, &mut out),
+        Ok(mut out) => foretell_from(rt, db, Unknown, number, &mut out),
         Err(_) => Ending::without_desk(Refusal::NoMemory),
     }
 }
@@ -40,7 +41,7 @@ pub fn run_impact(rt: &HostRuntime, db: &str, number: ProposalNumber) -> Ending 
 /// Writes an export: `export_from`.
 pub fn run_export(rt: &HostRuntime, db: &str, what: Export) -> Ending {
     match BufWriter::new(rt.alloc(), rt.stdout()) {
-        Ok(mut out) => export_from(rt, db, what, &mut out),
+        Ok(mut out) => export_from(rt, db, Unknown, what, &mut out),
         Err(_) => Ending::without_desk(Refusal::NoMemory),
     }
 }

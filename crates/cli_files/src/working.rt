@@ -27,7 +27,7 @@ use desk_service::facts;
 use desk_store::Desk;
 use desk_texts::{Facts, Key, Person};
 use pe_image::Pieces;
-use sqlite::{Alter, File};
+use sqlite::{Alter, FileFrom, Start};
 use sqlite_disk::Disk;
 use std::alloc::Global;
 use std::marker::PhantomData;
@@ -69,15 +69,16 @@ impl<'a, W: Buffered> Work for Adding<'a, W> {
 ///
 /// File: the file doesn't exist, or can't be opened. NotADesk, Version: it holds no desk that this
 /// program knows. Otherwise the desk's refusal.
-pub fn add_person<W: Buffered>(
+pub fn add_person<S: Start, W: Buffered>(
     rt: &HostRuntime,
     path: &str,
+    start: S,
     key: &Key,
     person: Person,
     writer: &mut W,
 ) -> Ending
     ensures added { (IsUnopened result × Keeps (W.contents writer.old) (W.contents writer.new))
-        ⊎ AtADesk (Calls ⟦<File as Disk>⟧ (adding key.now person)
+        ⊎ AtADesk (Calls ⟦<FileFrom<S> as Disk>⟧ (adding key.now person)
         (W.contents writer.old) (W.contents writer.new) result) }
     ensures done { IfOk result.work (λ outcome. outcome ≡ Outcome.Done) }
     ensures flushed { OnOk result.work (W.flushed writer.new) }
@@ -93,7 +94,7 @@ pub fn add_person<W: Buffered>(
         person,
         writer: PhantomData,
     };
-    on_desk(rt, path, Room::AsItIs, adding, writer)
+    on_desk(rt, path, start, Room::AsItIs, adding, writer)
 }
 
 /// The facts of an image that the desk keeps.
@@ -169,9 +170,15 @@ impl<'a, W: Buffered> Work for Judging<'a, W> {
 /// The faults of the desk's file come first, as for `add_person`; then those of the image's file
 /// (File, Read, NoMemory), then the refusal of the image, then Store, Reopen or Write. Nothing is
 /// written but after Write, which may leave a prefix of the line.
-pub fn judge_image<W: Buffered>(rt: &HostRuntime, path: &str, file: &str, writer: &mut W) -> Ending
+pub fn judge_image<S: Start, W: Buffered>(
+    rt: &HostRuntime,
+    path: &str,
+    start: S,
+    file: &str,
+    writer: &mut W,
+) -> Ending
     ensures judged { (IsUnopened result × Keeps (W.contents writer.old) (W.contents writer.new))
-        ⊎ AtADesk (Judges ⟦<File as Disk>⟧
+        ⊎ AtADesk (Judges ⟦<FileFrom<S> as Disk>⟧
         (W.contents writer.old) (W.contents writer.new) result) }
     ensures flushed { OnOk result.work (W.flushed writer.new) }
     ensures named { IfErr result.work (λ fault.
@@ -185,7 +192,7 @@ pub fn judge_image<W: Buffered>(rt: &HostRuntime, path: &str, file: &str, writer
         file,
         writer: PhantomData,
     };
-    on_desk(rt, path, Room::AsItIs, judging, writer)
+    on_desk(rt, path, start, Room::AsItIs, judging, writer)
 }
 
 /// Writes an export.
@@ -218,14 +225,15 @@ impl<W: Buffered> Work for Exporting<W> {
 
 /// Writes an export of the desk in a file. The faults of the desk's file are those of `add_person`.
 /// After a fault the writer may hold a prefix of the export. The desk doesn't change.
-pub fn export_from<W: Buffered>(
+pub fn export_from<S: Start, W: Buffered>(
     rt: &HostRuntime,
     path: &str,
+    start: S,
     what: Export,
     writer: &mut W,
 ) -> Ending
     ensures exported { (IsUnopened result × Keeps (W.contents writer.old) (W.contents writer.new))
-        ⊎ AtADesk (Exports ⟦<File as Disk>⟧ what
+        ⊎ AtADesk (Exports ⟦<FileFrom<S> as Disk>⟧ what
         (W.contents writer.old) (W.contents writer.new) result) }
     ensures done { IfOk result.work (λ outcome. outcome ≡ Outcome.Done) }
     ensures flushed { OnOk result.work (W.flushed writer.new) }
@@ -240,5 +248,5 @@ pub fn export_from<W: Buffered>(
         what,
         writer: PhantomData,
     };
-    on_desk(rt, path, Room::AsItIs, exporting, writer)
+    on_desk(rt, path, start, Room::AsItIs, exporting, writer)
 }

@@ -15,7 +15,7 @@ use cli_opening::{Worked, close_after, open_or_make};
 use desk_bytes::{Guid, Refusal};
 use desk_follow::{Followed, follow, has_owner};
 use desk_store::Desk;
-use sqlite::{Alter, Connection, File, FileStore};
+use sqlite::{Alter, Connection, FileFrom, FileStore, Start};
 use sqlite_disk::Disk;
 use std::alloc::Global;
 use std::io::{BufRead, BufReader, Read};
@@ -138,16 +138,17 @@ fn follow_on_desk<D: Disk + Drop, R: BufRead, W: Buffered>(
 /// or made. Owner: the desk has another. Minute: the place is the first line that isn't that of the
 /// desk, or what the rules give; a last line without a line break is such a line. Read: a read
 /// failed, or was interrupted. Write: all was followed, and a prefix of the lines may be written.
-pub fn follow_input<R: Read + Drop, W: Buffered>(
+pub fn follow_input<S: Start, R: Read + Drop, W: Buffered>(
     rt: &HostRuntime,
     db: &str,
+    start: S,
     owner: &Guid,
     reader: R,
     watch: &mut LineWatch,
     writer: &mut W,
 ) -> Ending
     ensures followed { (IsUnfound result × (watch.new ≡ watch.old) × (writer.new ≡ writer.old))
-        ⊎ AtFoundOrMade owner.now (Follows ⟦<File as Disk>⟧ owner.now (R.remaining reader)
+        ⊎ AtFoundOrMade owner.now (Follows ⟦<FileFrom<S> as Disk>⟧ owner.now (R.remaining reader)
         (W.contents writer.old) (W.contents writer.new) watch.new result) }
     ensures done { IfOk result.work (λ outcome. outcome ≡ Outcome.Done) }
     ensures flushed { OnOk result.work (W.flushed writer.new) }
@@ -163,7 +164,7 @@ pub fn follow_input<R: Read + Drop, W: Buffered>(
         Ok(reader) => reader,
         Err(_) => return Ending::without_desk(Refusal::NoMemory),
     };
-    match open_or_make(rt, db, owner) {
+    match open_or_make(rt, db, start, owner) {
         Ok(desk) => follow_on_desk(rt.alloc(), desk, owner, &mut reader, watch, writer),
         Err(refusal) => Ending::without_desk(refusal),
     }

@@ -4,6 +4,7 @@ use crate::follow_input;
 use cli_audit::LineWatch;
 use cli_lines::{Buffered, Ending, open_file};
 use desk_bytes::{Guid, Refusal};
+use sqlite::Unknown;
 use std::io::BufWriter;
 
 /// Follows the minutes in a file, or those of the standard input if it is named `-`.
@@ -16,10 +17,10 @@ fn follow_named<W: Buffered>(
 ) -> Ending {
     let mut watch = LineWatch::new();
     if file == "-" {
-        return follow_input(rt, db, owner, rt.stdin(), &mut watch, out);
+        return follow_input(rt, db, Unknown, owner, rt.stdin(), &mut watch, out);
     }
     match open_file(rt, file) {
-        Ok(input) => follow_input(rt, db, owner, input, &mut watch, out),
+        Ok(input) => follow_input(rt, db, Unknown, owner, input, &mut watch, out),
         Err(fault) => Ending {
             work: Err(fault),
             closing: None,

@@ -93,8 +93,8 @@ fn refusal_of(error: &Error) -> Refusal
 }
 
 /// Opens the database in the file at `path`, or creates it; its log is copied into it first.
-/// `start` says what is known of the file's contents (`Unknown`: nothing). It reads and checks the
-/// whole file, and takes memory for the pages that `room` asks for.
+/// `start` names what the two files hold at first, and how a stop is read; no code can read it. It
+/// reads and checks the whole file, and takes memory for the pages that `room` asks for.
 ///
 /// `File`: the file can't be opened or created, isn't a database, or is in use. `NoMemory`: memory
 /// was refused.

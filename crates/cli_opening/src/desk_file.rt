@@ -1,4 +1,5 @@
-//! A desk's file: made, opened and closed.
+//! A desk's file: made, opened and closed. What is proved of it holds whatever the file and its log
+//! held at first: `start` names that (sqlite_disk, `Start`).
 ghost use Rattle.std.specs.Prelude.{◌≡◌, None, IfErr, IfOk, IfSome, IsTrue, OnOk, false, true};
 ghost use Rattle.cli_opening.specs.Closing.{Ends, FailsForGood, IsClosed};
 ghost use Rattle.cli_opening.specs.Faults.{IsClosingRefusal, IsLasting};
@@ -11,7 +12,7 @@ use crate::connecting::{Room, connect};
 use cli_lines::{Ending, Fault, Outcome};
 use desk_bytes::{Guid, Refusal};
 use desk_store::Desk;
-use sqlite::{Alter, Connection, File, FileStore, Unknown};
+use sqlite::{Alter, Connection, FileFrom, FileStore, Start};
 use sqlite_disk::Disk;
 use sqlite_schema::schema::Schema;
 use std::alloc::Global;
@@ -23,7 +24,7 @@ use std::{fs, io};
 const PRIVATE: u32 = 0o600;
 
 /// A desk in a file.
-pub type FileDesk = Desk<FileStore<File>>;
+pub type FileDesk<S> = Desk<FileStore<FileFrom<S>>>;
 
 /// Drops a connection without closing it: nothing is written.
 fn let_go<S: Alter + Drop>(conn: Connection<S>) {
@@ -78,23 +79,33 @@ fn make_over<S: Alter + Drop>(
 }
 
 /// Makes a desk in an existing file.
-fn make_there(rt: &HostRuntime, path: &str, owner: &Guid) -> Result<FileDesk, Refusal>
-    ensures made { IfOk result (IsMade ⟦<File as Disk>⟧ owner.now) }
+fn make_there<S: Start>(
+    rt: &HostRuntime,
+    path: &str,
+    start: S,
+    owner: &Guid,
+) -> Result<FileDesk<S>, Refusal>
+    ensures made { IfOk result (IsMade ⟦<FileFrom<S> as Disk>⟧ owner.now) }
     ensures named { IfErr result IsMakingRefusal }
 {
-    match connect(rt, path, Room::AsItIs, Unknown) {
+    match connect(rt, path, Room::AsItIs, start) {
         Ok(conn) => make_over(rt.alloc(), conn, owner),
         Err(refusal) => Err(refusal),
     }
 }
 
 /// Makes a desk in a file. One that doesn't exist is created, for its user alone, and so is its log.
-pub fn make(rt: &HostRuntime, path: &str, owner: &Guid) -> Result<FileDesk, Refusal>
-    ensures made { IfOk result (IsMade ⟦<File as Disk>⟧ owner.now) }
+pub fn make<S: Start>(
+    rt: &HostRuntime,
+    path: &str,
+    start: S,
+    owner: &Guid,
+) -> Result<FileDesk<S>, Refusal>
+    ensures made { IfOk result (IsMade ⟦<FileFrom<S> as Disk>⟧ owner.now) }
     ensures named { IfErr result IsMakingRefusal }
 {
     match make_private(rt, path) {
-        Ok(()) => make_there(rt, path, owner),
+        Ok(()) => make_there(rt, path, start, owner),
         Err(refusal) => Err(refusal),
     }
 }
@@ -115,23 +126,33 @@ fn open_over<S: Alter + Drop>(alloc: Global, conn: Connection<S>) -> Result<Desk
 }
 
 /// Opens an existing file, and the desk in it.
-fn open_there(rt: &HostRuntime, path: &str, room: Room) -> Result<FileDesk, Refusal>
-    ensures opened { IfOk result (IsOpened ⟦<File as Disk>⟧) }
+fn open_there<S: Start>(
+    rt: &HostRuntime,
+    path: &str,
+    start: S,
+    room: Room,
+) -> Result<FileDesk<S>, Refusal>
+    ensures opened { IfOk result (IsOpened ⟦<FileFrom<S> as Disk>⟧) }
     ensures named { IfErr result IsOpeningRefusal }
 {
-    match connect(rt, path, room, Unknown) {
+    match connect(rt, path, room, start) {
         Ok(conn) => open_over(rt.alloc(), conn),
         Err(refusal) => Err(refusal),
     }
 }
 
 /// Opens the desk in a file. File: it doesn't exist, and isn't created.
-pub fn open(rt: &HostRuntime, path: &str, room: Room) -> Result<FileDesk, Refusal>
-    ensures opened { IfOk result (IsOpened ⟦<File as Disk>⟧) }
+pub fn open<S: Start>(
+    rt: &HostRuntime,
+    path: &str,
+    start: S,
+    room: Room,
+) -> Result<FileDesk<S>, Refusal>
+    ensures opened { IfOk result (IsOpened ⟦<FileFrom<S> as Disk>⟧) }
     ensures named { IfErr result IsOpeningRefusal }
 {
     match is_there(rt, path) {
-        Ok(true) => open_there(rt, path, room),
+        Ok(true) => open_there(rt, path, start, room),
         Ok(false) => Err(Refusal::File),
         Err(refusal) => Err(refusal),
     }
@@ -177,11 +198,16 @@ fn found_or_made<S: Alter + Drop>(
 }
 
 /// The same in an existing file.
-fn found_there(rt: &HostRuntime, path: &str, owner: &Guid) -> Result<FileDesk, Refusal>
-    ensures found { IfOk result (IsFoundOrMade ⟦<File as Disk>⟧ owner.now) }
+fn found_there<S: Start>(
+    rt: &HostRuntime,
+    path: &str,
+    start: S,
+    owner: &Guid,
+) -> Result<FileDesk<S>, Refusal>
+    ensures found { IfOk result (IsFoundOrMade ⟦<FileFrom<S> as Disk>⟧ owner.now) }
     ensures named { IfErr result IsFindingRefusal }
 {
-    match connect(rt, path, Room::ToGrow, Unknown) {
+    match connect(rt, path, Room::ToGrow, start) {
         Ok(conn) => match found_or_made(rt.alloc(), conn, owner) {
             Ok(desk) => Ok(desk),
             Err(refusal) => Err(refusal),
@@ -192,12 +218,17 @@ fn found_there(rt: &HostRuntime, path: &str, owner: &Guid) -> Result<FileDesk, R
 
 /// Opens a file, which is created if it doesn't exist, for its user alone, and the desk in it. In a
 /// file without a table one with this owner and without calls is made.
-pub fn open_or_make(rt: &HostRuntime, path: &str, owner: &Guid) -> Result<FileDesk, Refusal>
-    ensures found { IfOk result (IsFoundOrMade ⟦<File as Disk>⟧ owner.now) }
+pub fn open_or_make<S: Start>(
+    rt: &HostRuntime,
+    path: &str,
+    start: S,
+    owner: &Guid,
+) -> Result<FileDesk<S>, Refusal>
+    ensures found { IfOk result (IsFoundOrMade ⟦<FileFrom<S> as Disk>⟧ owner.now) }
     ensures named { IfErr result IsFindingRefusal }
 {
     match make_private(rt, path) {
-        Ok(()) => found_there(rt, path, owner),
+        Ok(()) => found_there(rt, path, start, owner),
         Err(refusal) => Err(refusal),
     }
 }

@@ -16,7 +16,7 @@ use crate::desk_file::{close_after, make, open};
 use cli_lines::{Ending, Fault, Outcome};
 use desk_bytes::Guid;
 use desk_store::Desk;
-use sqlite::{Alter, File, FileStore};
+use sqlite::{Alter, FileFrom, FileStore, Start};
 use sqlite_disk::Disk;
 
 /// A desk, and the result of a subcommand's work on it.
@@ -78,15 +78,16 @@ fn work_at<D: Disk + Drop, W: Work>(
 ///
 /// The faults of the desk's file come first. File: the file doesn't exist, or can't be opened.
 /// NotADesk, Version: it holds no desk that this program knows.
-pub fn on_desk<W: Work>(
+pub fn on_desk<S: Start, W: Work>(
     rt: &HostRuntime,
     path: &str,
+    start: S,
     room: Room,
     work: W,
     output: &mut W::Output,
 ) -> Ending
     ensures did { (IsUnopened result × (output.new ≡ output.old))
-        ⊎ WorksOn ⟦<File as Disk>⟧ (W.Work.does _ over_files work output.old output.new) result }
+        ⊎ WorksOn ⟦<FileFrom<S> as Disk>⟧ (W.Work.does _ over_files work output.old output.new) result }
     ensures left { IfOk result.work (W.Work.leaves output.new) }
     ensures named { IfErr result.work (λ fault.
         IsRow IsOpeningRefusal fault ⊎ W.Work.stops fault) }
@@ -95,7 +96,7 @@ pub fn on_desk<W: Work>(
     ensures closing { IfSome result.closing (IsRow IsClosingRefusal) }
     ensures let_go { IfErr result.work (λ fault. IsLasting fault.refusal → result.closing ≡ None) }
 {
-    match open(rt, path, room) {
+    match open(rt, path, start, room) {
         Ok(desk) => work_at(rt, desk, work, output),
         Err(refusal) => Ending::without_desk(refusal),
     }
@@ -106,14 +107,14 @@ pub fn on_desk<W: Work>(
 ///
 /// Exists: the file has a table, an index or a view with a name of the desk's already. File: it
 /// can't be opened or created, or isn't a database.
-pub fn make_desk(rt: &HostRuntime, path: &str, owner: &Guid) -> Ending
+pub fn make_desk<S: Start>(rt: &HostRuntime, path: &str, start: S, owner: &Guid) -> Ending
     ensures done { IfOk result.work (λ outcome. outcome ≡ Outcome.Done) }
     ensures named { IfErr result.work (IsRow IsMakingRefusal) }
-    ensures made { OnOk result.work (MakesDesk ⟦<File as Disk>⟧ owner.now result) }
+    ensures made { OnOk result.work (MakesDesk ⟦<FileFrom<S> as Disk>⟧ owner.now result) }
     ensures first { OnErr result.work (result.closing ≡ None) }
     ensures closing { IfSome result.closing (IsRow IsClosingRefusal) }
 {
-    match make(rt, path, owner) {
+    match make(rt, path, start, owner) {
         Ok(desk) => close_after(desk, Ok(Outcome::Done)),
         Err(refusal) => Ending::without_desk(refusal),
     }

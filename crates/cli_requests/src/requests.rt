@@ -21,7 +21,7 @@ use desk_http::Intake;
 use desk_store::Desk;
 use http_net::{answer_connection, listen, serve};
 use http_requests::Routes;
-use sqlite::{Alter, File};
+use sqlite::{Alter, FileFrom, Start};
 use sqlite_disk::Disk;
 use std::alloc::Global;
 use std::io::{Read, Write};
@@ -82,14 +82,15 @@ impl<'a, R: Read + Drop, W: Write> Work for OneRequest<'a, R, W> {
 ///
 /// The faults of the desk's file come first, as for `add_person`. Read, NoMemory: the request
 /// wasn't read. Write: a prefix of the response was written, and the answer's changes stay.
-pub fn answer_from<R: Read + Drop, W: Write>(
+pub fn answer_from<S: Start, R: Read + Drop, W: Write>(
     rt: &HostRuntime,
     path: &str,
+    start: S,
     reader: R,
     writer: &mut W,
 ) -> Ending
     ensures answered { (IsUnopened result × Keeps (W.contents writer.old) (W.contents writer.new))
-        ⊎ AtADesk (AnswersOnce ⟦<File as Disk>⟧ (R.remaining reader)
+        ⊎ AtADesk (AnswersOnce ⟦<FileFrom<S> as Disk>⟧ (R.remaining reader)
         (W.contents writer.old) (W.contents writer.new) result) }
     ensures done { IfOk result.work (λ outcome. outcome ≡ Outcome.Done) }
     ensures named { IfErr result.work (IsRow (λ refusal.
@@ -107,7 +108,7 @@ pub fn answer_from<R: Read + Drop, W: Write>(
         reader,
         writer: PhantomData,
     };
-    on_desk(rt, path, Room::AsItIs, request, writer)
+    on_desk(rt, path, start, Room::AsItIs, request, writer)
 }
 
 /// Serves `count` connections at this port of 127.0.0.1, for a desk, as a subcommand's work.
@@ -166,8 +167,14 @@ impl<'a> Work for Connections<'a> {
 /// The faults of the desk's file come first, as for `add_person`. Read: the port couldn't be
 /// opened, or no connection could be accepted. Store, Reopen: that response was written, and the
 /// desk must be opened again.
-pub fn serve_from(rt: &HostRuntime, path: &str, port: u16, count: u32) -> Ending
-    ensures served { IsUnopened result ⊎ AtADesk (Serves ⟦<File as Disk>⟧ count result) }
+pub fn serve_from<S: Start>(
+    rt: &HostRuntime,
+    path: &str,
+    start: S,
+    port: u16,
+    count: u32,
+) -> Ending
+    ensures served { IsUnopened result ⊎ AtADesk (Serves ⟦<FileFrom<S> as Disk>⟧ count result) }
     ensures done { IfOk result.work (λ outcome. outcome ≡ Outcome.Done) }
     ensures named { IfErr result.work (IsRow (λ refusal.
         IsOpeningRefusal refusal ⊎ IsServingRefusal refusal)) }
@@ -183,5 +190,5 @@ pub fn serve_from(rt: &HostRuntime, path: &str, port: u16, count: u32) -> Ending
         port,
         count,
     };
-    on_desk(rt, path, Room::ToGrow, connections, &mut ())
+    on_desk(rt, path, start, Room::ToGrow, connections, &mut ())
 }
