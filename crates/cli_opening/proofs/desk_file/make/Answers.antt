@@ -2,10 +2,10 @@ use Rattle.std.proofs.Common.{inl}
 use Rattle.cli_opening.proofs.desk_file.make.Goals as goal
 
 pub returns-in-Ok-clause-made : goal.returns-in-Ok-clause-made
-returns-in-Ok-clause-made c = c.make_there.ensures.made
+returns-in-Ok-clause-made g c = c.make_there.ensures.made
 
 pub returns-in-Ok-clause-named : goal.returns-in-Ok-clause-named
-returns-in-Ok-clause-named c = c.make_there.ensures.named
+returns-in-Ok-clause-named g c = c.make_there.ensures.named
 
 pub returns-in-Err-clause-named : goal.returns-in-Err-clause-named
-returns-in-Err-clause-named c = inl c.in-Err.ensures
+returns-in-Err-clause-named g c = inl c.in-Err.ensures
