@@ -84,8 +84,9 @@ Example:
 Exit status:
   0  the person is added
   1  refused: 22 KeyReused, KEY named another call; 35 NameTaken, the name or
-     the token is taken; 36 Full, the desk has as many people as it may;
-     43 NotADesk, DB holds no desk; 44 Version, it holds one of another version
+     the token is taken; 36 Full, the desk has as many people or calls as it
+     may; 43 NotADesk, DB holds no desk; 44 Version, it holds one of another
+     version
   2  an argument or the token is missing or wrong
   3  a device failed: 45 File, DB is missing or in use";
 
@@ -102,8 +103,9 @@ Example:
 Exit status:
   0  the person is added
   1  refused: 22 KeyReused, KEY named another call; 35 NameTaken, the name or
-     the token is taken; 36 Full, the desk has as many people as it may;
-     43 NotADesk, DB holds no desk; 44 Version, it holds one of another version
+     the token is taken; 36 Full, the desk has as many people or calls as it
+     may; 43 NotADesk, DB holds no desk; 44 Version, it holds one of another
+     version
   2  an argument or the token's SHA-256 is missing or wrong
   3  a device failed: 45 File, DB is missing or in use";
 
@@ -122,12 +124,13 @@ Exit status:
   3  a device failed: 45 File, DB is missing or in use";
 
 pub const FOLLOW: &str = "\
-FILE has minutes as `minutes` prints them. If DB is missing, makes a desk of
-OWNER in it; otherwise the minutes of the desk in DB have to be a beginning of
-FILE, or FILE a beginning of them. Follows the other lines of FILE, one commit
-each: the number, caller, key, text and reply of each have to be what the rules
-give. A run that was stopped is finished by the next. Prints `calls N`, and
-with `minutes`, `dbx`, `db` and `level` the SHA-256 of what the desk exports.
+FILE has minutes as `minutes` prints them. If DB is missing or has no table,
+makes a desk of OWNER in it; otherwise the minutes of the desk in DB have to be
+a beginning of FILE, or FILE a beginning of them. Follows the other lines of
+FILE, one commit each: the number, caller, key, text and reply of each have to
+be what the rules give. A run that was stopped is finished by the next. Prints
+`calls N`, and with `minutes`, `dbx`, `db` and `level` the SHA-256 of what the
+desk exports.
 
 Example:
   desk follow standby.db 00112233-4455-6677-8899-aabbccddeeff minutes.txt
@@ -156,8 +159,8 @@ Exit status:
   1  refused: 43 NotADesk, DB holds no desk; 44 Version, it holds one of another
      version
   2  an argument is missing or wrong
-  3  a device failed: 45 File, DB is missing or in use; 14 Read, PORT is taken;
-     41 Store or 42 Reopen, after the response that says so";
+  3  a device failed: 45 File, DB is missing or in use; 14 Read, PORT can't be
+     opened; 41 Store or 42 Reopen, after the response that says so";
 
 pub const ANSWER: &str = "\
 Reads one HTTP request from standard input and writes to standard output the

@@ -1,5 +1,5 @@
-//! The work of a subcommand on the desk in a file. Only this file and desk_file name the system's
-//! files, whose types are costly to prove with.
+//! The work of a subcommand on the desk in a file. A `Work` is written for any store, since the types
+//! of the system's files are costly to prove with.
 ghost use Rattle.std.specs.Prelude.{◌≡◌, ◌⊎◌, Result, None, IfErr, IfOk, IfSome, OnErr, OnOk};
 ghost use Rattle.sqlite.specs.Files.{over_files};
 ghost use Rattle.sqlite.specs.Store.{Ghosts};
