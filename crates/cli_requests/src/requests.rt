@@ -167,13 +167,7 @@ impl<'a> Work for Connections<'a> {
 /// The faults of the desk's file come first, as for `add_person`. Read: the port couldn't be
 /// opened, or no connection could be accepted. Store, Reopen: that response was written, and the
 /// desk must be opened again.
-pub fn serve_from<S: Start>(
-    rt: &HostRuntime,
-    path: &str,
-    start: S,
-    port: u16,
-    count: u32,
-) -> Ending
+pub fn serve_from<S: Start>(rt: &HostRuntime, path: &str, start: S, port: u16, count: u32) -> Ending
     ensures served { IsUnopened result ⊎ AtADesk (Serves ⟦<FileFrom<S> as Disk>⟧ count result) }
     ensures done { IfOk result.work (λ outcome. outcome ≡ Outcome.Done) }
     ensures named { IfErr result.work (IsRow (λ refusal.
