@@ -101,14 +101,18 @@ module _ {S : Type 0} (g : store.Ghosts S) where
 
 -- the same of a desk in files, which is then closed
 module _ {D : Type 0} (g : Ghosts D) where
+  -- a desk in files exports this, and is then closed
   abbrev pub Exports : Export → Option (List ℕ) → Option (List ℕ) → Ending → Desk (FileStore D g) → Type 0
   Exports what before after ending desk = WorksAt g (WritesExport over_files what before after desk) ending
 
+  -- it gives the verdict on an image, and is then closed
   abbrev pub Judges : Option (List ℕ) → Option (List ℕ) → Ending → Desk (FileStore D g) → Type 0
   Judges before after ending desk = WorksAt g (WritesVerdict over_files before after desk) ending
 
+  -- it writes the impact of the proposal k, and is then closed
   abbrev pub WritesImpact : ℕ → Option (List ℕ) → Option (List ℕ) → Ending → Desk (FileStore D g) → Type 0
   WritesImpact k before after ending desk = WorksAt g (ForetellsImpact over_files k before after desk) ending
 
+  -- it answers the call, and is then closed
   abbrev pub Calls : Call → Option (List ℕ) → Option (List ℕ) → Ending → Desk (FileStore D g) → Type 0
   Calls c before after ending desk = WorksAt g (AnswersCall over_files c before after desk) ending

@@ -39,7 +39,7 @@ pub enum Refusal {
     SbatRow,
     /// The input passes a stated limit of size or count.
     TooLong,
-    /// A device: a read failed or was interrupted.
+    /// A device: a read failed or was interrupted, or a port can't be opened.
     Read,
     /// There is no signature list there. The place is its offset in bytes.
     List,
@@ -54,11 +54,11 @@ pub enum Refusal {
     CsvRow,
     /// Nobody has that name or token.
     UnknownCaller,
-    /// The caller's role has no such command.
+    /// The caller's role has no such command or read.
     NotYourRole,
     /// The caller used that key for another command.
     KeyReused,
-    /// No request that the caller may see has that number.
+    /// No request that the caller may see, or withdraw, has that number.
     NoSuchRequest,
     /// The request's state doesn't allow it.
     WrongState,
@@ -76,7 +76,7 @@ pub enum Refusal {
     AlreadyRevoked,
     /// The generation isn't above the current one, or can't be raised.
     NotHigher,
-    /// The stamp isn't above the current one.
+    /// The stamp is missing, or isn't above the current one.
     StampNotLater,
     /// It is listed already.
     AlreadyListed,
@@ -103,19 +103,19 @@ pub enum Refusal {
     NotADesk,
     /// The database holds a desk of a version that this program doesn't know.
     Version,
-    /// A device: a file can't be opened.
+    /// A device: a file can't be opened, or is in use.
     File,
     /// The database has a table, an index or a view with a name of the desk's already, so no desk
     /// is made in it.
     Exists,
-    /// A line of minutes isn't what the rules give there, or isn't whole. The place is its number
-    /// from 1.
+    /// A line of minutes isn't the desk's, isn't what the rules give there, or isn't whole. The
+    /// place is its number from 1.
     Minute,
     /// The desk in the database has another owner than the one given.
     Owner,
-    /// The head of an HTTP request is wrong, too long or cut short.
+    /// The head of an HTTP request is wrong or too long, or the request is cut short.
     BadHead,
-    /// A field of an HTTP request is wrong, or is given twice.
+    /// A field of an HTTP request is missing, wrong or given twice.
     BadField,
     /// The JSON body of an HTTP request is wrong.
     BadBody,

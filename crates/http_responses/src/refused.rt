@@ -48,11 +48,11 @@ pub enum Refused {
     CsvRow(u64),
     /// Nobody has that name or token.
     UnknownCaller,
-    /// The caller's role has no such command.
+    /// The caller's role has no such command or read.
     NotYourRole,
     /// The caller used that key for another command.
     KeyReused,
-    /// No request that the caller may see has that number.
+    /// No request that the caller may see, or withdraw, has that number.
     NoSuchRequest,
     /// The request's state doesn't allow it.
     WrongState,
@@ -70,7 +70,7 @@ pub enum Refused {
     AlreadyRevoked,
     /// The generation isn't above the current one, or can't be raised.
     NotHigher,
-    /// The stamp isn't above the current one.
+    /// The stamp is missing, or isn't above the current one.
     StampNotLater,
     /// It is listed already.
     AlreadyListed,
@@ -84,11 +84,11 @@ pub enum Refused {
     NoSuchProposal,
     /// Nobody confirms a proposal of their own.
     OwnProposal,
-    /// The proposal was confirmed or dropped already.
+    /// The proposal was confirmed or dropped before.
     ProposalClosed,
-    /// The head of an HTTP request is wrong, too long or cut short.
+    /// The head of an HTTP request is wrong or too long, or the request is cut short.
     BadHead,
-    /// A field of an HTTP request is wrong, or is given twice.
+    /// A field of an HTTP request is missing, wrong or given twice.
     BadField,
     /// The JSON body of an HTTP request is wrong.
     BadBody,
