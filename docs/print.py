@@ -45,12 +45,22 @@ def subject_of(lines: Sequence[str]) -> str:
     return comment_above(lines, end, "--")
 
 
+def items_of(lines: Sequence[str]) -> Iterator[Tuple[int, str]]:
+    """The first line of each item of a file, with its number: those of a `module _` are indented by two."""
+    margin = ""
+    for at, line in enumerate(lines):
+        if re.match(r"(?!--)\S", line):
+            margin = "  " if line.startswith("module _") else ""
+        if re.match(rf"{margin}\S", line):
+            yield at, line.removeprefix(margin)
+
+
 def definitions_of(path: str) -> Tuple[str, List[Tuple[str, str]]]:
     """The subject of a file, and each public word that it defines with its comment."""
     lines = read(path).split("\n")
     words = [
         (word.group(1), comment_above(lines, at, "--"))
-        for at, line in enumerate(lines)
+        for at, line in items_of(lines)
         for word in [re.match(r"(?:abbrev |unfoldable )?pub (?:record |data )?(?!mod\b)([^\s:]+)", line)]
         if word
     ]
