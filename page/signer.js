@@ -25,7 +25,8 @@ export function signerDoubts(one, now, known) {
     if (one.authority) doubts.push({
         title: 'It is a CA’s.',
         text: 'Firmware and shim follow the chain to it; the desk compares what an image carries, and most carry their signer’s '
-            + 'certificate alone: list the signer’s. An image that carries the CA’s is allowed, whoever signed it.',
+            + 'certificate alone: list the signer’s. An image that carries the CA’s is allowed, whoever signed it, unless something '
+            + 'bars it.',
     });
     if (now.revoked.certificates.has(one.name)) doubts.push({
         title: 'It is revoked.',

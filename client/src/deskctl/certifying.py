@@ -43,7 +43,7 @@ NOT_RSA = (
 AUTHORITY = (
     "It says that it is a CA's. Firmware and shim follow the chain to it; the desk compares what an"
     " image carries, and most carry their signer's certificate alone: list the signer's. An image"
-    " that carries the CA's is allowed, whoever signed it."
+    " that carries the CA's is allowed, whoever signed it, unless something bars it."
 )
 REVOKED = "It is revoked at this desk: whatever carries it stays barred, listed or not."
 
