@@ -1,11 +1,11 @@
 #!/usr/bin/env bash
-# checks/version1.sh [PROGRAM]: that each subcommand with DB but `init`, `shim` and `follow` opens a
-# real file of version 1 (examples/version-1), which keeps its calls and exports and becomes one of
-# version 2; that the next opening writes nothing; that earlier keys and revocations still count;
-# that images of before are in the impacts of new proposals; and that an audit passes its minutes,
-# with calls of before and new ones. A file with the same tables and rows, made in the opposite
-# order, has the same exports, and the same day at the served desk. PROGRAM: another program than
-# ./desk. It needs gzip, python3 and sqlite3.
+# checks/version1.sh [PROGRAM]: that each subcommand with DB but `init` opens a real file of version 1
+# (examples/version-1), which keeps its calls and exports and becomes one of version 2; that the next
+# opening writes nothing; that earlier keys and revocations still count; that images of before are in
+# the impacts of new proposals; and that an audit passes its minutes, with calls of before and new
+# ones. A file with the same tables and rows, made in the opposite order, has the same exports, and
+# the same day at the served desk. PROGRAM: another program than ./desk. It needs gzip, python3 and
+# sqlite3.
 set -eu
 . "$(dirname -- "$(readlink -f -- "$0")")/common.sh"
 needs gzip python3 sqlite3
@@ -62,6 +62,12 @@ level_of() {
 for export in dbx db level minutes; do
     opened 0 "$program" "$export" desk.db < /dev/null
 done
+# (no certificate is revoked, so shim's form is dbx)
+opened 0 "$program" shim desk.db < /dev/null
+cmp -s out "$kept/dbx.esl" || fail 'shim: another list'
+# its own minutes, of which it lacks none
+opened 0 "$program" follow desk.db "$owner" "$kept/minutes" < /dev/null
+[ "$(head -n 1 out)" = "calls $(wc -l < "$kept/minutes")" ] || fail "follow: $(cat out)"
 opened 0 "$program" verdict desk.db "$root/examples/signed.efi" < /dev/null
 [ "$(cat out)" = allowed ] || fail "verdict: $(cat out)"
 opened 0 "$program" answer desk.db < /dev/null

@@ -1,7 +1,7 @@
 """Requests that HTTP itself or the desk's routes refuse, and the responses that are due: for edges.py and openapi.py."""
 from typing import Optional
 
-from desk import PLAIN, digest, got, posted, refused, request, said, token
+from desk import PLAIN, changed, digest, got, posted, refused, request, said, token, with_text
 
 Field = tuple[str, str]
 NAMED = said({"digest": digest("aa")})
@@ -14,6 +14,11 @@ def asked(method: str, path: str, *fields: Field, body: Optional[bytes] = None) 
 
 def key(value: str = "unused") -> Field:
     return ("Desk-Key", value)
+
+
+def judged(image: bytes) -> bytes:
+    """A request for the verdict on this image."""
+    return posted("ann", "unused", "/verdict", image)
 
 
 def other_method(allow: str) -> bytes:
@@ -65,6 +70,10 @@ REFUSED = {
     "facts without a length": (asked("POST", "/facts"), refused(55)),
     "a request without a title": (posted("ann", "unused", "/requests", PLAIN), refused(51)),
     "zeros for an image": (posted("ann", "unused", "/requests", bytes(5_000_000), ("Desk-Title", "long")), refused(2)),
+    "no PE where the header points": (judged(changed(PLAIN, (64, "00000000"))), refused(3)),
+    "a program of Windows": (judged(changed(PLAIN, (156, "0300"))), refused(5)),
+    "a section within the headers": (judged(changed(PLAIN, (348, "00010000"))), refused(8)),
+    "two sections of SBAT text": (judged(changed(with_text(PLAIN, b"sbat,1\n"), (328, "2e73626174"))), refused(11)),
     "JSON without the member": (asked("POST", "/dbx/digests", key(), body=b'{"note":"fine"}'), refused(52)),
     "JSON for signature lists": (asked("POST", "/imports/dbx", key(), body=NAMED), refused(15, 0)),
     "JSON for CSV": (asked("POST", "/imports/csv", key(), body=NAMED), refused(19, 0)),
