@@ -182,13 +182,13 @@ PHRASES = {
 REFUSALS = {
     1: ("Short", 422), 2: ("NoMz", 422), 3: ("NoPe", 422), 4: ("Magic", 422), 5: ("NotEfi", 422), 6: ("Headers", 422),
     7: ("Sections", 422), 8: ("Overlap", 422), 9: ("Table", 422), 10: ("Der", 422), 11: ("TwoSbat", 422), 12: ("SbatRow", 422),
-    13: ("TooLong", 422), 15: ("List", 422), 19: ("CsvRow", 422), 20: ("UnknownCaller", 401), 21: ("NotYourRole", 403),
-    22: ("KeyReused", 409), 23: ("NoSuchRequest", 404), 24: ("WrongState", 409), 25: ("OwnRequest", 409), 26: ("AlreadyReviewed", 409),
-    27: ("DigestDiffers", 409), 28: ("Revoked", 409), 29: ("NotListed", 409), 30: ("AlreadyRevoked", 409), 31: ("NotHigher", 409),
-    32: ("StampNotLater", 409), 33: ("AlreadyListed", 409), 34: ("NotThere", 409), 36: ("Full", 409), 37: ("NoSuchProposal", 404),
-    38: ("OwnProposal", 409), 39: ("ProposalClosed", 409), 40: ("NoMemory", 503), 50: ("BadHead", 400), 51: ("BadField", 400),
-    52: ("BadBody", 422), 53: ("NoRoute", 404), 54: ("BadMethod", 405), 55: ("LengthNeeded", 411), 56: ("TooLarge", 413),
-    57: ("NotSupported", 501),
+    13: ("TooLong", 422), 15: ("List", 422), 16: ("EntrySize", 422), 19: ("CsvRow", 422), 20: ("UnknownCaller", 401),
+    21: ("NotYourRole", 403), 22: ("KeyReused", 409), 23: ("NoSuchRequest", 404), 24: ("WrongState", 409), 25: ("OwnRequest", 409),
+    26: ("AlreadyReviewed", 409), 27: ("DigestDiffers", 409), 28: ("Revoked", 409), 29: ("NotListed", 409), 30: ("AlreadyRevoked", 409),
+    31: ("NotHigher", 409), 32: ("StampNotLater", 409), 33: ("AlreadyListed", 409), 34: ("NotThere", 409), 36: ("Full", 409),
+    37: ("NoSuchProposal", 404), 38: ("OwnProposal", 409), 39: ("ProposalClosed", 409), 40: ("NoMemory", 503), 50: ("BadHead", 400),
+    51: ("BadField", 400), 52: ("BadBody", 422), 53: ("NoRoute", 404), 54: ("BadMethod", 405), 55: ("LengthNeeded", 411),
+    56: ("TooLarge", 413), 57: ("NotSupported", 501),
 }
 
 

@@ -1,10 +1,12 @@
 """Requests that HTTP itself or the desk's routes refuse, and the responses that are due: for edges.py and openapi.py."""
 from typing import Optional
 
-from desk import PLAIN, changed, digest, got, posted, refused, request, said, token, with_text
+from desk import PLAIN, SHA256_KIND, TABLE, changed, digest, got, posted, refused, request, said, token, with_table, with_text
 
 Field = tuple[str, str]
 NAMED = said({"digest": digest("aa")})
+# A signature list of SHA256 whose one entry has 47 bytes.
+SHORT_DIGESTS = SHA256_KIND + bytes.fromhex("4b000000" "00000000" "2f000000") + bytes(47)
 
 
 def asked(method: str, path: str, *fields: Field, body: Optional[bytes] = None) -> bytes:
@@ -73,8 +75,11 @@ REFUSED = {
     "no PE where the header points": (judged(changed(PLAIN, (64, "00000000"))), refused(3)),
     "a program of Windows": (judged(changed(PLAIN, (156, "0300"))), refused(5)),
     "a section within the headers": (judged(changed(PLAIN, (348, "00010000"))), refused(8)),
+    "a certificate table that is cut": (judged(with_table(PLAIN, TABLE[:9])), refused(9)),
     "two sections of SBAT text": (judged(changed(with_text(PLAIN, b"sbat,1\n"), (328, "2e73626174"))), refused(11)),
     "JSON without the member": (asked("POST", "/dbx/digests", key(), body=b'{"note":"fine"}'), refused(52)),
+    "JSON for a level": (asked("POST", "/imports/level", key(), body=NAMED), refused(12, 1)),
     "JSON for signature lists": (asked("POST", "/imports/dbx", key(), body=NAMED), refused(15, 0)),
+    "digests of 31 bytes": (asked("POST", "/imports/dbx", key(), body=SHORT_DIGESTS), refused(16, 0)),
     "JSON for CSV": (asked("POST", "/imports/csv", key(), body=NAMED), refused(19, 0)),
 }
