@@ -163,6 +163,7 @@ run 1 none 'refused 48 Owner' none follow standby.db "$other" longer
 run 3 none 'device 45 File' none follow new.db "$owner" missing
 [ ! -e new.db ] || fail 'a desk was made without minutes'
 run 3 none 'device 45 File' none follow missing/new.db "$owner" longer
+run 2 none 'bad OWNER' none follow missing/new.db nobody missing
 mkdir folder
 run 3 none 'device 45 File' none follow folder "$owner" longer
 run 3 none 'device 14 Read' none follow read.db "$owner" folder

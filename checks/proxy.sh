@@ -17,7 +17,7 @@
 # desk-publish and desk-standby read, a person taken out of the list, one revoked, whose TLS
 # session from before doesn't help, nor where another site of the same port keeps it. The log has each
 # request and no token. Each run of the program, of curl and of nginx ends after a stated time. Not
-# part of the gate: it needs curl, openssl and python3, and nginx or the network to get it.
+# part of `rt ci`: it needs curl, openssl and python3, and nginx or the network to get it.
 set -eu
 . "$(dirname -- "$(readlink -f -- "$0")")/common.sh"
 needs curl openssl python3

@@ -17,9 +17,9 @@
 # the answer was written. The same call with the same key gets the same answer again, and the tables
 # are those of one acceptance.
 #
-# Then ten lives of one desk, each with a person whose call is stopped; and ten lives of a desk
-# where a second officer confirmed the revocation of an image's digest: other commands are stopped,
-# and the response of one command in each life meets a full device; dbx keeps the digest, the image
+# Then ten lives of one desk, each with a person, whose call is stopped in all but the last; and ten
+# lives of a desk where a second officer confirmed the revocation of an image's digest: other commands
+# are stopped, and the response of one command in each life meets a full device; dbx keeps the digest, the image
 # stays refused, and the minutes have each key once, in order. The files are in TMPDIR or /tmp; the
 # 1,656 stops took 18 minutes in memory, with other work running. Not part of `rt ci`, nor of
 # all.sh: it needs strace and sqlite3.

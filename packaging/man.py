@@ -27,6 +27,7 @@ INPUT_AND_OUTPUT = [
     "Lines of `facts`",
     "Lines of `list`",
     "Lines of `impact`",
+    "Lists of `dbx` and `db`",
     "Lists of `shim`",
     "Lines of `audit`",
     "Input of `person` and `enrol`",

@@ -39,7 +39,8 @@ pub enum Refusal {
     SbatRow,
     /// The input passes a stated limit of size or count.
     TooLong,
-    /// A device: a read failed or was interrupted, or a port can't be opened.
+    /// A device: a read failed or was interrupted, a port can't be opened, or a connection can't be
+    /// accepted.
     Read,
     /// There is no signature list there. The place is its offset in bytes.
     List,
@@ -103,7 +104,7 @@ pub enum Refusal {
     NotADesk,
     /// The database holds a desk of a version that this program doesn't know.
     Version,
-    /// A device: a file can't be opened, or is in use.
+    /// A device: a file can't be opened or made, isn't a database, or is in use.
     File,
     /// The database has a table, an index or a view with a name of the desk's already, so no desk
     /// is made in it.
