@@ -69,7 +69,7 @@ db_lists owner cs =
 abbrev pub db : List ℕ → History → List ℕ
 db owner cs = spelling (db_lists owner cs)
 
--- the level's components other than `sbat`, ascending by name
+-- the level's components, ascending by name. In a desk's history (`IsHistory`) none is `sbat`
 abbrev pub level_components : History → List Component
 level_components cs = ascending_by (λ (x : Component). x.name) (level_rows (generations cs))
 

@@ -25,8 +25,8 @@ pub fn refused_runs_make_lives<S: Alter>(conn: &Connection<S>)
     let _ = conn;
 }
 
-/// A desk that is opened after a run, wherever that was stopped, has the history of before with the
-/// lines whose commits were done: no acknowledged call is lost, and none of these lines.
+/// A desk that is opened after a run, wherever that was stopped, has the history of before, or one
+/// that extends it by the next lines: no call that was acknowledged before the run is lost.
 pub fn openings_recover_runs<S: Alter>(conn: &Connection<S>, desk: &Desk<S>)
     ensures { RecoversRuns S.Store conn.now desk.now }
 {

@@ -68,8 +68,8 @@ fn answer_input<D: Answering, R: Read>(
 }
 
 /// Serves one connection: reads a request, asks the desk, and writes the response, which is built
-/// whole before its first byte is written. Nothing after the request is read, and the body only
-/// once the caller is known. Takes memory.
+/// whole before its first byte is written. The body is read only once the caller is known, and
+/// nothing after it (of a known caller, no clause says so). Takes memory.
 ///
 /// If memory for an answer or its text is refused, the response is NoMemory, and an accepted
 /// command stays accepted. If the store fails, the response is Store; if it failed before, Reopen.

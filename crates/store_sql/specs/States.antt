@@ -65,6 +65,6 @@ StaysInside g old new result =
 abbrev pub CommitsNothing : {S : Type 0} → Ghosts S → Held S → Held S → Type 0
 CommitsNothing g old new = HasCleanDisk (state g new) → IsTrue (state g old).in_transaction → KeepsCommit (state g old) (state g new)
 
--- a stop leaves only what it could have left before, on any disk
+-- a stop leaves only what it could have left before, if the disk is clean afterwards
 abbrev pub Spares : {S : Type 0} → Ghosts S → Held S → Held S → Type 0
 Spares g old new = Survives (state g old) (state g new) (λ _. ⊥)
