@@ -11,7 +11,7 @@ from dataclasses import replace
 from typing import Callable, Dict, List, Tuple
 
 from commands import TODAY, files
-from tools import Between, Part, Person, Program, Secured, answer, by_bytecode, calls, fail, module, people
+from tools import Between, Part, Person, Program, Secured, answer, by_bytecode, calls, fail, module, people, with_room
 from desk import Held, digest, said
 
 Ask = Callable[[bytes], bytes]
@@ -239,6 +239,19 @@ def store_failed(program: Program) -> None:
         between.close()
 
 
+def journal_full(program: Program) -> None:
+    """A key that isn't whole on the disk doesn't go out."""
+    with Part(program, "full") as part:
+        ann, words = part.people["ann"], ("submit", "plain.efi", "--title", "T")
+        run = ann.start(*words, preexec_fn=with_room(100))
+        err = run.communicate()[1]
+        if run.returncode != 3 or b"File too large" not in err or calls(part.minutes()):
+            fail(f"a journal on a disk that is full: status {run.returncode}, {err!r}, {calls(part.minutes())}")
+        ann.does(*words, out=["request 1"])
+        if ann.pending():
+            fail("a journal on a disk that was full has an entry")
+
+
 def waiting(program: Program) -> None:
     """`wait` goes on while the desk is out of reach, once it was there; it ends where it never was."""
     with Part(program, "waiting") as part:
@@ -353,6 +366,7 @@ def check(program: Program) -> str:
     unsettled(program)
     certificate_fault(program)
     store_failed(program)
+    journal_full(program)
     waiting(program)
     killed_in_flight(program)
     side_by_side(program)

@@ -3,10 +3,10 @@ can't be brought to it. A desk without these routes is told of in words."""
 from __future__ import annotations
 
 import os
-from typing import Any
+from typing import Any, List
 
 from commands import TODAY, files
-from tools import Between, Part, Person, Program, answer, by_bytecode, fail
+from tools import Between, Part, Person, Program, answer, by_bytecode, fail, with_room
 from desk import PEOPLE, PLAIN, authenticode, digest, refused, said, sha256, with_text
 
 
@@ -135,6 +135,7 @@ def minutes_by_proxy(part: Part) -> None:
         with open(copy, "rb") as file:
             if file.read() != b"".join(lines):
                 fail(f"minutes --into a copy of {len(kept)} bytes")
+    cut_short(olga, copy, lines)
     if os.stat(copy).st_mode & 0o777 != 0o600:
         fail("a copy of the minutes can be read by others")
     for history, texts in ((lines[:2000], "line 2500"), (lines[:2499] + [lines[2499].replace(b"listed", b"unlisted")], "line 2500")):
@@ -145,6 +146,18 @@ def minutes_by_proxy(part: Part) -> None:
     olga.ends(2, "minutes", "--into", copy, err=["line 1 isn't the minutes' line 1"])
     between.close()
     olga.at(part.url)
+
+
+def cut_short(olga: Person, copy: str, lines: List[bytes]) -> None:
+    """A disk that gets full within the last part of the minutes: the copy keeps whole lines, and the next run goes on."""
+    os.truncate(copy, 0)
+    run = olga.start("minutes", "--into", copy, preexec_fn=with_room(len(b"".join(lines[:2400])) + 9))
+    err = run.communicate()[1]
+    with open(copy, "rb") as file:
+        found = file.read()
+    if run.returncode != 3 or found != b"".join(lines[:2000]) or b"of them new" in err:
+        fail(f"minutes --into a disk that gets full: status {run.returncode}, {len(found)} bytes, {err!r}")
+    olga.does("minutes", "--into", copy, err=["2,500 calls, 500 of them new"])
 
 
 def by_desk(part: Part) -> None:

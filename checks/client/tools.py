@@ -9,6 +9,7 @@ import json
 import os
 import pty
 import re
+import resource
 import shutil
 import socket
 import ssl
@@ -82,6 +83,16 @@ def module(name: str) -> Any:
     return importlib.import_module(f"deskctl.{name}")
 
 
+def with_room(size: int) -> Callable[[], None]:
+    """What a process begins with, so that of a file it writes this many bytes alone: the last write is cut, as on a disk that gets full."""
+
+    def begin() -> None:
+        end_with_parent()
+        resource.setrlimit(resource.RLIMIT_FSIZE, (size, size))
+
+    return begin
+
+
 class Person:
     """deskctl as one person: a folder, a token's file and a journal of its own."""
 
@@ -104,7 +115,7 @@ class Person:
     def start(self, *words: str, **more: Any) -> subprocess.Popen:
         return subprocess.Popen(
             [*COMMAND, *words], stdin=more.pop("stdin", subprocess.DEVNULL), stdout=subprocess.PIPE, stderr=subprocess.PIPE, env=self.env,
-            preexec_fn=end_with_parent, cwd=self.program.room.name, **more,
+            preexec_fn=more.pop("preexec_fn", end_with_parent), cwd=self.program.room.name, **more,
         )
 
     def run(self, *words: str) -> Tuple[int, str, str]:

@@ -60,6 +60,13 @@ def looks_like(data: bytes) -> str:
     )
 
 
+def write_all(file: int, data: bytes) -> None:
+    """Writes all of it: of one call a disk that is nearly full takes a part."""
+    left = memoryview(data)
+    while left:
+        left = left[os.write(file, left) :]
+
+
 def fresh(path: str, data: bytes) -> None:
     """A file whole, or as it was."""
     path = os.path.realpath(path)

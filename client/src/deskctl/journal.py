@@ -12,6 +12,7 @@ from typing import Any, Callable, Dict, List, NoReturn, Optional, Sequence
 
 from .api import Answer, Call, Desk, not_a_desk
 from .faults import Causes, DONE, Lost, Refused, Stop, explained, reason, wrong
+from .files import write_all
 from .settings import Names, Settings, folder_of
 from .terminal import Terminal
 
@@ -69,7 +70,8 @@ class Entry:
             {"desk": where, "keys": self.keys, "since": self.since, "what": what}
         ).encode()
         os.ftruncate(self.file, 0)
-        os.pwrite(self.file, text, 0)
+        os.lseek(self.file, 0, os.SEEK_SET)
+        write_all(self.file, text)
         os.fsync(self.file)
         folder = os.open(os.path.dirname(self.path), os.O_RDONLY | os.O_CLOEXEC)
         os.fsync(folder)

@@ -1,6 +1,7 @@
 """The commands that read: get, minutes, people, report; and one's own: token, pending."""
 from __future__ import annotations
 
+import contextlib
 import fcntl
 import hashlib
 import os
@@ -10,7 +11,7 @@ from typing import BinaryIO, Iterator, Tuple
 
 from .api import Answer, not_a_desk
 from .faults import REFUSED, Refused, Stop, reason, wrong
-from .files import fresh
+from .files import fresh, write_all
 from .journal import Run
 from .standing import me_of
 from .words import counted, printable
@@ -117,6 +118,19 @@ def last_line(file: BinaryIO, path: str) -> Tuple[int, bytes, bytes]:
     return count, last, rest
 
 
+def append(file: int, data: bytes) -> None:
+    """Appends all of it, or leaves the file as it was."""
+    size = os.fstat(file).st_size
+    try:
+        write_all(file, data)
+        os.fsync(file)
+    except BaseException:
+        # Where that fails too, a later run finds the cut line.
+        with contextlib.suppress(OSError):
+            os.ftruncate(file, size)
+        raise
+
+
 def minutes_into(run: Run, path: str) -> None:
     """Appends what a copy lacks. The desk's line of the same number has to be the copy's last
     one."""
@@ -140,8 +154,7 @@ def minutes_into(run: Run, path: str) -> None:
             )
         data = data[len(last) :]
         while data:
-            file.write(data[len(rest) :] if not added else data)
-            os.fsync(file.fileno())
+            append(file.fileno(), data[len(rest) :] if not added else data)
             added += data.count(b"\n")
             at = count + added + 1
             data = minutes_from(run, at) if at <= 9_999_999 else b""
