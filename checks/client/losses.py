@@ -201,6 +201,23 @@ def unsettled(program: Program) -> None:
         between.close()
 
 
+def proxy_failed(program: Program) -> None:
+    """A proxy's 5xx leaves open what became of the command, whatever its number; but 501 says that nobody had it."""
+    with Part(program, "proxy") as part:
+        between = Between(part.server.port)
+        ann = part.people["ann"].at(between.url)
+        for at, (status, text) in enumerate(((507, "507, Insufficient Storage"), (520, "520, the proxy failed"), (524, "524, the proxy failed")), 1):
+            words = ("submit", "plain.efi", "--title", f"proxy {at}")
+            between.loses = [instead(status, BUSY, b"text/html", True)]
+            ann.ends(3, *words, "--retries", "0", err=[text, "Run the same command again"])
+            ann.does(*words, out=[f"request {at} submitted"], err=["taking up the keys of"])
+        between.loses = [instead(501, BUSY, b"text/html", False)]
+        ann.ends(1, "submit", "plain.efi", "--title", "another", err=["refused by the proxy: 501 Not Implemented"])
+        if len(calls(part.minutes())) != 3 or ann.pending():
+            fail("behind a proxy's 5xx a command acted twice, or is in the journal")
+        between.close()
+
+
 def certificate_fault(program: Program) -> None:
     """Behind a lost answer a certificate that isn't trusted leaves the key for the next run; alone it leaves nothing."""
     with Part(program, "trust") as part:
@@ -364,6 +381,7 @@ def check(program: Program) -> str:
     tried = each_length(program)
     out_of_reach(program)
     unsettled(program)
+    proxy_failed(program)
     certificate_fault(program)
     store_failed(program)
     journal_full(program)

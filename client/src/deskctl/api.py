@@ -95,7 +95,7 @@ class Answer:
         refused = self.refusal()
         if refused is not None:
             return refused.number == 40
-        return self.status in UNTAKEN or self.status in (500, 502, 503, 504)
+        return self.status in UNTAKEN or (self.status >= 500 and self.status != 501)
 
     def trouble(self) -> str:
         words = {
@@ -106,14 +106,10 @@ class Answer:
             504: "the desk takes too long",
         }
         refused = self.refusal()
-        return (
-            str(refused)
-            if refused
-            else (
-                f"{self.status},"
-                f" {words.get(self.status, http.client.responses.get(self.status, 'no answer'))}"
-            )
-        )
+        if refused:
+            return str(refused)
+        standard = http.client.responses.get(self.status, "the proxy failed")
+        return f"{self.status}, {words.get(self.status, standard)}"
 
 
 def not_a_desk(answer: Answer) -> Stop:
