@@ -202,11 +202,12 @@ def unsettled(program: Program) -> None:
 
 
 def proxy_failed(program: Program) -> None:
-    """A proxy's 5xx leaves open what became of the command, whatever its number; but 501 says that nobody had it."""
+    """A proxy's 5xx, or a page of its own, leaves open what became of the command; but 501 says that nobody had it."""
     with Part(program, "proxy") as part:
         between = Between(part.server.port)
         ann = part.people["ann"].at(between.url)
-        for at, (status, text) in enumerate(((507, "507, Insufficient Storage"), (520, "520, the proxy failed"), (524, "524, the proxy failed")), 1):
+        pages = ((507, "507, Insufficient Storage"), (520, "520, the proxy failed"), (202, "the answer isn't a desk's: 202, text/html"))
+        for at, (status, text) in enumerate(pages, 1):
             words = ("submit", "plain.efi", "--title", f"proxy {at}")
             between.loses = [instead(status, BUSY, b"text/html", True)]
             ann.ends(3, *words, "--retries", "0", err=[text, "Run the same command again"])
@@ -214,7 +215,7 @@ def proxy_failed(program: Program) -> None:
         between.loses = [instead(501, BUSY, b"text/html", False)]
         ann.ends(1, "submit", "plain.efi", "--title", "another", err=["refused by the proxy: 501 Not Implemented"])
         if len(calls(part.minutes())) != 3 or ann.pending():
-            fail("behind a proxy's 5xx a command acted twice, or is in the journal")
+            fail("behind a proxy's answer a command acted twice, or is in the journal")
         between.close()
 
 

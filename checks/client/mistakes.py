@@ -9,7 +9,9 @@ import time
 from typing import List, Tuple
 
 from commands import HEX, SIGNED, TODAY, files
-from tools import DESKCTL, TBS, ROOT, Between, Part, Person, Program, by_bytecode, calls, cases, fail, made, module, modules, self_signed, token
+from tools import (
+    DESKCTL, TBS, ROOT, Between, Part, Person, Program, answer, by_bytecode, calls, cases, fail, made, module, modules, self_signed, token,
+)
 from desk import PLAIN, authenticode, digest, digest_list, sha256, with_text
 
 
@@ -302,6 +304,24 @@ def lengths(part: Part) -> None:
         fail(f"an output that is full: {ran.returncode}, {ran.stderr!r}")
 
 
+def portal(part: Part) -> None:
+    """A captive portal's page isn't taken for a desk's answer, and gets no image."""
+    between = Between(part.server.port)
+    olga, ann = part.people["olga"].at(between.url), part.people["ann"].at(between.url)
+    page, text = answer(200, b"<html>Log in</html>", b"text/html"), "the answer isn't a desk's: 200, text/html"
+    between.shows = {path: page for path in ("/level", "/report", "/requests", "/dbx", "/db")}
+    for words in (("requests",), ("requests", "--json"), ("report",), ("get", "level"), ("get", "dbx"), ("facts", "plain.efi")):
+        if olga.ends(3, *words, err=[text, "is the desk there?"]):
+            fail(f"deskctl {' '.join(words)} prints a captive portal's page")
+    for words in (("raise", "shim", "4", "--stamp", TODAY + "01", "--yes"), ("import", "lists.esl", "--yes")):
+        unsent(part, olga, words, text, status=3)
+    part.program.file("two.efi", PLAIN + bytes(2 << 20))
+    unsent(part, ann, ("submit", "two.efi", "--title", "T"), text, status=3)
+    if any(head.startswith(b"POST") for head in between.seen):
+        fail("a captive portal got a command")
+    between.close()
+
+
 def wrong_tokens(part: Part) -> None:
     """A token of nobody is told, however long the image."""
     ann = part.people["ann"]
@@ -370,7 +390,7 @@ def confirming(part: Part) -> None:
 
 
 def check(program: Program) -> str:
-    parts: List = [three_mistakes, levels, texts, refusals, same_words_anew, tokens, settings, lengths, listing, confirming]
+    parts: List = [three_mistakes, levels, texts, refusals, same_words_anew, tokens, settings, lengths, portal, listing, confirming]
     files(program)
     certificates(program)
     in_words()

@@ -28,6 +28,8 @@ CONNECT_SECONDS, ANSWER_SECONDS, FIRST_PAUSE, LONGEST_PAUSE = 30, 330, 0.25, 30.
 RETRIES = 7
 # A proxy's statuses for a request that it passed on to nobody.
 UNTAKEN = (408, 429)
+# The types of a desk's answers.
+JSON, TEXT, BYTES = "application/json", "text/plain", "application/octet-stream"
 # Longer bodies are sent once the token is known to be somebody's.
 PREFLIGHT = 1 << 20
 
@@ -62,11 +64,15 @@ class Answer:
         self.body.seek(0)
         return self.body.read()
 
-    def json(self) -> Any:
-        if self.kind != "application/json":
+    def of_type(self, kind: str) -> Answer:
+        """Itself, if it has the type that is due."""
+        if self.kind != kind:
             raise not_a_desk(self)
+        return self
+
+    def json(self) -> Any:
         try:
-            return json.loads(self.data())
+            return json.loads(self.of_type(JSON).data())
         except ValueError:
             raise not_a_desk(self) from None
 
@@ -78,7 +84,7 @@ class Answer:
 
     def refusal(self) -> Optional[Refused]:
         """The desk's refusal, if this is one."""
-        if self.status == 200 or self.kind != "application/json":
+        if self.status == 200 or self.kind != JSON:
             return None
         try:
             found = json.loads(self.data())
@@ -256,7 +262,7 @@ class Desk:
     def preflight(self) -> None:
         """Whether the token is somebody's, before a long body goes out."""
         try:
-            self.get("/level")
+            self.get("/level").of_type(TEXT)
         except Stop as stop:
             # None of these tries was the command's.
             stop.tried = False
@@ -289,9 +295,7 @@ class Desk:
 
     def items(self, path: str) -> Iterator[Dict[str, Any]]:
         """The objects of an array, one after another: a list of any length takes little memory."""
-        answer = self.get(path)
-        if answer.kind != "application/json":
-            raise not_a_desk(answer)
+        answer = self.get(path).of_type(JSON)
         decoder, text = json.JSONDecoder(), io.TextIOWrapper(answer.body, encoding="utf-8")
         rest, at = text.read(PIECE), 1
         if rest[:1] != "[":
@@ -325,7 +329,7 @@ def proxy_refusal(answer: Answer) -> Stop:
         404: "Look at the URL: is the desk there?",
         413: "The file is longer than the proxy lets through.",
     }
-    if answer.status in (200, 301, 302, 303, 307, 308):
+    if answer.status < 400:
         return not_a_desk(answer)
     text = (
         f"refused by the proxy: {answer.status} {http.client.responses.get(answer.status, '')}"

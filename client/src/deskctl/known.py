@@ -7,7 +7,7 @@ from collections import Counter
 from dataclasses import dataclass, field, fields
 from typing import Any, Dict, List, Optional, Sequence, Set, Tuple, Type, TypeVar
 
-from .api import not_a_desk
+from .api import BYTES, TEXT, not_a_desk
 from .certificates import BadDer, certificate_in, tbs_of
 from .faults import Lost
 from .formats import level_read
@@ -185,7 +185,7 @@ class Known:
 
 
 def lists_of(run: Run, path: str) -> List[SignatureList]:
-    answer = run.desk.get(path)
+    answer = run.desk.get(path).of_type(BYTES)
     try:
         return read_lists(answer.data())
     except BadList:
@@ -214,7 +214,7 @@ def known(
 
 
 def level_of(run: Run) -> Tuple[int, Dict[str, int]]:
-    return level_read(run.desk.get("/level").data().decode("utf-8", "replace"))
+    return level_read(run.desk.get("/level").of_type(TEXT).data().decode("utf-8", "replace"))
 
 
 def stamp_doubt(stamp: int) -> Optional[str]:

@@ -9,7 +9,7 @@ import secrets
 import stat
 from typing import BinaryIO, Iterator, Tuple
 
-from .api import Answer, not_a_desk
+from .api import Answer, BYTES, TEXT, not_a_desk
 from .faults import REFUSED, Refused, Stop, reason, wrong
 from .files import fresh, write_all
 from .journal import Run
@@ -60,7 +60,7 @@ def me(run: Run) -> None:
 
 
 def report(run: Run) -> None:
-    run.terminal.out.write(run.desk.get("/report").data().decode("utf-8", "replace"))
+    run.terminal.out.write(run.desk.get("/report").of_type(TEXT).data().decode("utf-8", "replace"))
 
 
 def get(run: Run) -> None:
@@ -69,10 +69,7 @@ def get(run: Run) -> None:
         wrong(
             f"{what} is no text for a terminal", f"Give -o FILE: deskctl get {what} -o {what}.esl"
         )
-    answer = run.desk.get(f"/{what}")
-    if answer.kind != ("text/plain" if what == "level" else "application/octet-stream"):
-        raise not_a_desk(answer)
-    data = answer.data()
+    data = run.desk.get(f"/{what}").of_type(TEXT if what == "level" else BYTES).data()
     if into and into != "-":
         fresh(into, data)
         run.terminal.note(
@@ -83,9 +80,7 @@ def get(run: Run) -> None:
 
 
 def minutes_from(run: Run, number: int) -> bytes:
-    answer = new_route(run, f"/minutes/{number}", "minutes")
-    if answer.kind != "text/plain":
-        raise not_a_desk(answer)
+    answer = new_route(run, f"/minutes/{number}", "minutes").of_type(TEXT)
     data = answer.data()
     if data and (not data.endswith(b"\n") or not data.startswith(b"%d\t" % number)):
         raise not_a_desk(answer)

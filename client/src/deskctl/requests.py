@@ -9,7 +9,7 @@ import shutil
 import time
 from typing import Any, Dict, List, Optional, Tuple
 
-from .api import Call, LONGEST_PAUSE
+from .api import Call, JSON, LONGEST_PAUSE
 from .faults import Causes, DONE, LOST, Lost, NOT_ALLOWED, REFUSED, Refused, Stop, explained, wrong
 from .files import IMAGE_LIMIT, looks_like, read_file
 from .images import facts_of, gap_words
@@ -128,9 +128,8 @@ def requests(run: Run) -> None:
     words = run.words
     name = own_name(run) if words.mine else None
     if words.json and not words.state and not words.mine:
-        shutil.copyfileobj(
-            io.TextIOWrapper(run.desk.get("/requests").body, encoding="utf-8"), run.terminal.out
-        )
+        answer = run.desk.get("/requests").of_type(JSON)
+        shutil.copyfileobj(io.TextIOWrapper(answer.body, encoding="utf-8"), run.terminal.out)
         run.terminal.say()
         return
     taken = (
