@@ -224,6 +224,17 @@ def who_asks(part: Part) -> None:
     who["raul"].does("review", "1", "yes", out=["reviewed: open"])
 
 
+def stopped(part: Part) -> None:
+    """The verdicts that came are shown, whatever ends the run."""
+    between = Between(part.server.port)
+    between.shows["/level"] = answer(502, b"", b"text/html")
+    ann = part.people["ann"].at(between.url)
+    ann.ends(3, "verdict", "unsigned.efi", "signed.efi", "--retries", "0", out=["unsigned.efi", "\tsigned.efi"], err=["502, the proxy"])
+    ann.ends(2, "verdict", "unsigned.efi", "missing.efi", out=["unsigned.efi"], err=["No such file"])
+    ann.ends(1, "verdict", "unsigned.efi", "leaf.der", out=["unsigned.efi"], err=["refused 2 NoMz"])
+    between.close()
+
+
 NO_ROUTE = answer(404, b'{"name":"NoRoute","refused":53}')
 
 
@@ -256,6 +267,7 @@ def check(program: Program) -> str:
         at_hand(part, known)
     with Part(program, "who") as part:
         who_asks(part)
+        stopped(part)
         older(part)
     return f"{counts[0]} certificate tables, {counts[1]} certificates to be listed, {counts[2]} files beside a request or the lists"
 

@@ -7,7 +7,7 @@ import json
 import math
 import shutil
 import time
-from typing import Any, Dict, List, Optional, Tuple
+from typing import Any, Dict, List, Optional, Sequence, Tuple
 
 from .api import Call, JSON, LONGEST_PAUSE
 from .faults import Causes, DONE, LOST, Lost, NOT_ALLOWED, REFUSED, Refused, Stop, explained, wrong
@@ -307,40 +307,44 @@ def give_back(run: Run) -> None:
     )
 
 
-def verdict(run: Run) -> Optional[int]:
-    status, rows, issuers, told = DONE, [], Issuers(run), []
+def verdict_of(run: Run, path: str, data: bytes) -> Dict[str, Any]:
+    try:
+        found = run.desk.ask(Call("POST", "/verdict", data)).object()
+    except Refused as refused:
+        refused.more.append(f"The file: {path}")
+        raise explained(refused, body_causes(path, data)) from None
+    if "verdict" not in found:
+        said_number(found, "verdict")
+    return found
 
-    def show() -> None:
-        if run.words.json:
-            return
-        run.terminal.table(("VERDICT", "WHY", "FILE"), rows, 2)
-        for line in told:
-            run.terminal.note(line)
-        if any(row[0] == "allowed" for row in rows):
-            run.terminal.note(
-                "allowed: by its digest or a certificate that it carries; no signature was checked."
-            )
 
-    for path in run.words.files:
-        data = read_file(path, IMAGE_LIMIT, "an image has")
-        try:
-            found = run.desk.ask(Call("POST", "/verdict", data)).object()
-        except Refused as refused:
-            if rows:
-                show()
-            refused.more.append(f"The file: {path}")
-            raise explained(refused, body_causes(path, data)) from None
-        if "verdict" not in found:
-            said_number(found, "verdict")
-        if found["verdict"] != "allowed":
-            status = NOT_ALLOWED
-        if run.words.json:
-            run.print_json(found)
-        elif found["verdict"] == "not-listed" and issuers.words(data):
-            told.append(f"{path}: {ISSUER_LISTED}.")
-        rows.append((found["verdict"], verdict_words(found), path))
-    show()
-    return status
+def show_verdicts(run: Run, rows: Sequence[Tuple[str, str, str]], told: Sequence[str]) -> None:
+    run.terminal.table(("VERDICT", "WHY", "FILE"), rows, 2)
+    for line in told:
+        run.terminal.note(line)
+    if any(row[0] == "allowed" for row in rows):
+        run.terminal.note(
+            "allowed: by its digest or a certificate that it carries; no signature was checked."
+        )
+
+
+def verdict(run: Run) -> int:
+    """Shows the verdicts that came, whatever ends the run."""
+    rows: List[Tuple[str, str, str]] = []
+    issuers, told = Issuers(run), []
+    try:
+        for path in run.words.files:
+            data = read_file(path, IMAGE_LIMIT, "an image has")
+            found = verdict_of(run, path, data)
+            rows.append((found["verdict"], verdict_words(found), path))
+            if run.words.json:
+                run.print_json(found)
+            elif found["verdict"] == "not-listed" and issuers.words(data):
+                told.append(f"{printable(path)}: {ISSUER_LISTED}.")
+    finally:
+        if rows and not run.words.json:
+            show_verdicts(run, rows, told)
+    return DONE if all(row[0] == "allowed" for row in rows) else NOT_ALLOWED
 
 
 def hopeless(one: Request, wanted: str) -> None:
