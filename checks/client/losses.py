@@ -5,6 +5,7 @@ import concurrent.futures
 import io
 import os
 import signal
+import socket
 import threading
 import time
 from dataclasses import replace
@@ -270,24 +271,45 @@ def journal_full(program: Program) -> None:
             fail("a journal on a disk that was full has an entry")
 
 
+def asked(between: Between, more: int) -> None:
+    """Waits until so many more looks are taken at request 1."""
+
+    def looks() -> int:
+        return sum(head.startswith(b"GET /requests/1 ") for head in between.seen)
+
+    until, wanted = time.monotonic() + 60, looks() + more
+    while looks() < wanted:
+        if time.monotonic() > until:
+            fail("wait doesn't ask")
+        time.sleep(0.05)
+
+
+def in_time(between: Between, ann: Person) -> None:
+    """`wait` ends at its time, though the desk is out of reach by then, or never answers."""
+    between.shows.clear()
+    run = ann.start("wait", "1", "--state", "signed", "--timeout", "4")
+    asked(between, 2)
+    between.shows["/requests/1"] = answer(502, BUSY, b"text/html")
+    begun, err = time.monotonic(), run.communicate()[1]
+    if run.returncode != 3 or b"request 1 is still approved after 4 s" not in err or time.monotonic() - begun > 20:
+        fail(f"wait for 4 s: status {run.returncode} after {time.monotonic() - begun:.1f} s, {err!r}")
+    with socket.create_server(("127.0.0.1", 0)) as silent:
+        begun = time.monotonic()
+        ann.at(f"http://127.0.0.1:{silent.getsockname()[1]}").ends(3, "wait", "1", "--timeout", "1", err=["timed out"])
+        if time.monotonic() - begun > 30:
+            fail(f"wait for 1 s at a desk that never answers: {time.monotonic() - begun:.1f} s")
+
+
 def waiting(program: Program) -> None:
     """`wait` goes on while the desk is out of reach, once it was there; it ends where it never was."""
     with Part(program, "waiting") as part:
         between = Between(part.server.port)
         who = people(program, between.url, part.name)
         who["ann"].does("submit", "plain.efi", "--title", "T")
-
-        def asked(count: int) -> None:
-            until = time.monotonic() + 60
-            while sum(head.startswith(b"GET /requests/1 ") for head in between.seen) < count:
-                if time.monotonic() > until:
-                    fail("wait doesn't ask")
-                time.sleep(0.05)
-
         run = who["ann"].start("wait", "1", "--timeout", "100", "--retries", "0")
-        asked(1)
+        asked(between, 1)
         between.shows["/requests/1"] = answer(502, BUSY, b"text/html")
-        asked(3)
+        asked(between, 2)
         # (by the desk's own address: a vote reads the request before it goes out)
         for name in ("rita", "raul"):
             part.people[name].does("review", "1", "yes")
@@ -297,6 +319,7 @@ def waiting(program: Program) -> None:
             fail(f"wait while the desk is out of reach: status {run.returncode}, {out!r}, {err!r}")
         between.shows["/requests/1"] = answer(502, BUSY, b"text/html")
         who["ann"].ends(3, "wait", "1", "--timeout", "100", "--retries", "0", err=["the proxy doesn't reach the desk"])
+        in_time(between, who["ann"])
         between.close()
 
 

@@ -5,6 +5,7 @@ import hashlib
 import http.client
 import io
 import json
+import math
 import os
 import random
 import shutil
@@ -25,6 +26,8 @@ from .words import next_steps, printable
 # Seconds: to connect, to wait for the next bytes of an answer (the proxy waits for 300), between
 # tries.
 CONNECT_SECONDS, ANSWER_SECONDS, FIRST_PAUSE, LONGEST_PAUSE = 30, 330, 0.25, 30.0
+# The least that each of the first two gets, however soon the asking ends.
+LEAST_SECONDS = 3
 RETRIES = 7
 # A proxy's statuses for a request that it passed on to nobody.
 UNTAKEN = (408, 429)
@@ -182,13 +185,18 @@ class Desk:
             b"deskctl\0" + str(self.where).encode() + b"\0" + secret
         ).hexdigest()[:16]
         self.known_caller = False
+        # When the asking ends, by time.monotonic().
+        self.until = math.inf
+
+    def seconds(self, most: float) -> float:
+        """So many, or as many as are left before the asking ends."""
+        return max(min(most, self.until - time.monotonic()), LEAST_SECONDS)
 
     def connection(self) -> http.client.HTTPConnection:
+        host, port, seconds = self.where.host, self.where.port, self.seconds(CONNECT_SECONDS)
         if self.context:
-            return http.client.HTTPSConnection(
-                self.where.host, self.where.port, timeout=CONNECT_SECONDS, context=self.context
-            )
-        return http.client.HTTPConnection(self.where.host, self.where.port, timeout=CONNECT_SECONDS)
+            return http.client.HTTPSConnection(host, port, timeout=seconds, context=self.context)
+        return http.client.HTTPConnection(host, port, timeout=seconds)
 
     def once(self, call: Call) -> Answer:
         """One try."""
@@ -211,7 +219,7 @@ class Desk:
             connection.close()
 
     def exchange(self, connection: http.client.HTTPConnection, call: Call) -> Answer:
-        connection.sock.settimeout(ANSWER_SECONDS)
+        connection.sock.settimeout(self.seconds(ANSWER_SECONDS))
         connection.putrequest(call.method, self.where.prefix + call.path)
         connection.putheader("User-Agent", f"deskctl/{VERSION}")
         if self.__token:
@@ -235,7 +243,7 @@ class Desk:
 
     def ask(self, call: Call) -> Answer:
         """The answer to a call. Where none came it is asked again, by the same words and the same
-        key."""
+        key, unless the asking ends before."""
         if len(call.body) > PREFLIGHT and not self.known_caller:
             self.preflight()
         pause, sent, text = FIRST_PAUSE, False, ""
@@ -250,11 +258,12 @@ class Desk:
             except Stop as stop:
                 stop.tried = sent
                 raise
-            if left:
-                wait = pause * random.uniform(0.8, 1.2)
-                self.terminal.note(f"deskctl: {text}; again in {wait:.1f} s")
-                time.sleep(wait)
-                pause = min(pause * 2, LONGEST_PAUSE)
+            wait = pause * random.uniform(0.8, 1.2)
+            if not left or time.monotonic() + wait >= self.until:
+                break
+            self.terminal.note(f"deskctl: {text}; again in {wait:.1f} s")
+            time.sleep(wait)
+            pause = min(pause * 2, LONGEST_PAUSE)
         raise Lost(
             text, sent, *([] if sent else ["Is the desk running there, and is the URL right?"])
         )

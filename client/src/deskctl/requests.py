@@ -365,13 +365,14 @@ def wait(run: Run) -> None:
     answered once may do so again."""
     number, wanted, pause = run.words.number, run.words.state, 1.0
     until = time.monotonic() + (run.words.timeout or math.inf)
+    run.desk.until = until
     one: Optional[Request] = None
     while True:
         try:
             value = run.desk.get(f"/requests/{number}").object()
             one = shaped(Request, value)
         except Lost as lost:
-            if one is None or time.monotonic() >= until:
+            if one is None:
                 raise
             run.terminal.note(f"deskctl: {lost}; still waiting")
         else:
