@@ -1,4 +1,4 @@
-"""The whole of this folder is one program: `python3 -m zipapp` makes a file of it."""
+"""The whole of this folder is one program; ../one_file.py makes a file of it and page/minutes.json."""
 import sys
 
 from deskctl.cli import main
