@@ -124,7 +124,11 @@ def texts(part: Part) -> None:
         unsent(part, part.people["olga"], ("revoke", name), f"refused {number}", status=1)
     unsent(part, ann, ("submit", "missing.efi", "--title", "T"), "No such file")
     unsent(part, ann, ("submit", ".", "--title", "T"), "Is a directory")
+    unsent(part, ann, ("submit", "\x1b[7m.efi", "--title", "T"), "\\x1b[7m.efi: No such file")
     olga = part.people["olga"]
+    program.file("\x1b[7m.esl", digest_list([digest("31")]))
+    olga.does("import", "\x1b[7m.esl", "--dry-run", out=["\\x1b[7m.esl: "])
+    olga.does("get", "db", "-o", "\x1b[7m.db", err=["\\x1b[7m.db: "])
     unsent(part, olga, ("list-certificate", "real.key"), "private key")
     unsent(part, olga, ("list-certificate", "plain.efi"), "it is an image")
     with open(program.at("real.pem"), "rb") as file:

@@ -261,7 +261,7 @@ class Desk:
             wait = pause * random.uniform(0.8, 1.2)
             if not left or time.monotonic() + wait >= self.until:
                 break
-            self.terminal.note(f"deskctl: {text}; again in {wait:.1f} s")
+            self.terminal.note(f"deskctl: {printable(text)}; again in {wait:.1f} s")
             time.sleep(wait)
             pause = min(pause * 2, LONGEST_PAUSE)
         raise Lost(

@@ -176,7 +176,7 @@ def told(terminal: Terminal, stop: Stop, command: Optional[Command]) -> None:
         if stop.number == 21 and command and command.who:
             stop.more.insert(0, f"`deskctl {command.name}` is for {command.who}.")
     for line in [f"deskctl: {stop}", *(f"  {line}" for line in stop.more)]:
-        terminal.warn(TOKEN.sub("(a token)", line))
+        terminal.warn(TOKEN.sub("(a token)", printable(line)))
 
 
 def ran(arguments: Sequence[str], terminal: Terminal) -> int:

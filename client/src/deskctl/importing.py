@@ -126,7 +126,8 @@ def previewed(
 ) -> List[str]:
     """What is in a file of revocations, a fact a line."""
     new = force.new(found) if force else {}
-    lines = [f"{path}: {found.kind}"] + [f"  {note}" for note in found.notes]
+    lines = [f"{printable(path)}: {found.kind}"]
+    lines += [f"  {printable(note)}" for note in found.notes]
     for name, entries in (
         ("digests", found.digests),
         ("certificates", found.certificates),

@@ -48,7 +48,8 @@ def certificate_named(run: Run, text: str) -> str:
         return hex_of(text, "a certificate's file, or the SHA-256 of its TBSCertificate")
     found = certificate_of(text)
     run.terminal.note(
-        f"{text}: {found.subject}\n  certificate {found.tbs} (the SHA-256 of its TBSCertificate)"
+        f"{printable(text)}: {found.subject}\n"
+        f"  certificate {found.tbs} (the SHA-256 of its TBSCertificate)"
     )
     return found.tbs
 
@@ -64,8 +65,8 @@ def digest_named(run: Run, text: str) -> str:
     facts = facts_of(run, text)
     if facts.digest != facts.signing:
         run.terminal.warn(
-            f"! {text} has a length that is no multiple of 8: shim looks at its other digest,"
-            f" {facts.signing}. The desk allows it by {facts.digest}."
+            f"! {printable(text)} has a length that is no multiple of 8: shim looks at its other"
+            f" digest, {facts.signing}. The desk allows it by {facts.digest}."
         )
     return facts.digest
 
@@ -159,15 +160,15 @@ def revoked_named(run: Run) -> Named:
                 "A digest is named by --digest HEX, a certificate by --certificate.",
             )
         data = read_file(path, IMAGE_LIMIT, "an image has")
-        facts = facts_read_by(run, path, data)
+        facts, name = facts_read_by(run, path, data), printable(path)
         for doubt in algorithm_doubts(signatures_of(data)):
-            run.terminal.warn(f"! {path}: {doubt}")
+            run.terminal.warn(f"! {name}: {doubt}")
         digests += [facts.digest, facts.signing]
-        about.update({facts.signing: f"signing digest of {path}"})
-        about.update({facts.digest: f"digest of {path}"})
+        about.update({facts.signing: f"signing digest of {name}"})
+        about.update({facts.digest: f"digest of {name}"})
         if facts.gap:
             run.terminal.warn(
-                f"! {path} has a gap of {facts.gap} bytes, where osslsigncode and fwupd have"
+                f"! {name} has a gap of {facts.gap} bytes, where osslsigncode and fwupd have"
                 " another digest than firmware."
             )
     digests += [hex_of(text, "an image's digest") for text in run.words.digest]

@@ -73,7 +73,7 @@ def get(run: Run) -> None:
     if into and into != "-":
         fresh(into, data)
         run.terminal.note(
-            f"{into}: {len(data):,} bytes, SHA-256 {hashlib.sha256(data).hexdigest()}"
+            f"{printable(into)}: {len(data):,} bytes, SHA-256 {hashlib.sha256(data).hexdigest()}"
         )
     else:
         run.terminal.out.buffer.write(data)
@@ -153,7 +153,7 @@ def minutes_into(run: Run, path: str) -> None:
             added += data.count(b"\n")
             at = count + added + 1
             data = minutes_from(run, at) if at <= 9_999_999 else b""
-    run.terminal.note(f"{path}: {counted(at - 1, 'call')}, {added:,} of them new")
+    run.terminal.note(f"{printable(path)}: {counted(at - 1, 'call')}, {added:,} of them new")
 
 
 def minutes(run: Run) -> None:

@@ -214,8 +214,8 @@ def review(run: Run) -> None:
     )
 
     def show(replies: Replies) -> None:
-        state = str(replies[0].get("state"))
-        run.terminal.say(f"request {number} reviewed: {printable(state)}")
+        state = printable(replies[0].get("state"))
+        run.terminal.say(f"request {number} reviewed: {state}")
         run.terminal.note(f"{state}: {NEXT.get(state, '')}.")
 
     act(
@@ -374,7 +374,7 @@ def wait(run: Run) -> None:
         except Lost as lost:
             if one is None:
                 raise
-            run.terminal.note(f"deskctl: {lost}; still waiting")
+            run.terminal.note(f"deskctl: {printable(lost)}; still waiting")
         else:
             if one.state == wanted or (wanted, one.state) == ("approved", "signed"):
                 (

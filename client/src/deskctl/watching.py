@@ -210,7 +210,7 @@ def watch(run: Run) -> None:
         except Stop as stop:
             if run.words.once or not (isinstance(stop, Lost) or stop.status == LOST):
                 raise
-            run.terminal.warn(f"deskctl: {stop}; still watching")
+            run.terminal.warn(f"deskctl: {printable(stop)}; still watching")
         if run.words.once:
             return
         rest = max(MINUTE, REST * (time.monotonic() - begun))
