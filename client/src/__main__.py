@@ -1,4 +1,4 @@
-"""The whole of this folder is one program; ../one_file.py makes a file of it and page/minutes.json."""
+"""This folder is one program; ../one_file.py makes a file of it and of page/minutes.json."""
 import sys
 
 from deskctl.cli import main

@@ -85,7 +85,7 @@ def explained(refused: Refused, causes: Causes) -> Refused:
     if refused.number in causes:
         try:
             found = causes[refused.number](refused)
-        except (Stop, OSError, ValueError, KeyError, TypeError):
+        except (Stop, OSError, ValueError, LookupError, TypeError):
             found = []
     if not refused.explained:
         refused.more = refused.more + found + next_steps(refused.number)
