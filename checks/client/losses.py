@@ -287,12 +287,12 @@ def asked(between: Between, more: int) -> None:
 def in_time(between: Between, ann: Person) -> None:
     """`wait` ends at its time, though the desk is out of reach by then, or never answers."""
     between.shows.clear()
-    run = ann.start("wait", "1", "--state", "signed", "--timeout", "4")
+    run = ann.start("wait", "1", "--state", "signed", "--timeout", "3")
     asked(between, 2)
     between.shows["/requests/1"] = answer(502, BUSY, b"text/html")
     begun, err = time.monotonic(), run.communicate()[1]
-    if run.returncode != 3 or b"request 1 is still approved after 4 s" not in err or time.monotonic() - begun > 20:
-        fail(f"wait for 4 s: status {run.returncode} after {time.monotonic() - begun:.1f} s, {err!r}")
+    if run.returncode != 3 or b"request 1 is still approved after 3 s" not in err or time.monotonic() - begun > 20:
+        fail(f"wait for 3 s: status {run.returncode} after {time.monotonic() - begun:.1f} s, {err!r}")
     with socket.create_server(("127.0.0.1", 0)) as silent:
         begun = time.monotonic()
         ann.at(f"http://127.0.0.1:{silent.getsockname()[1]}").ends(3, "wait", "1", "--timeout", "1", err=["timed out"])
