@@ -84,7 +84,7 @@ def module(name: str) -> Any:
 
 
 def with_room(size: int) -> Callable[[], None]:
-    """What a process begins with, so that of a file it writes this many bytes alone: the last write is cut, as on a disk that gets full."""
+    """What a process begins with: its files get no longer than this, and the write that would pass it is cut, as on a disk that gets full."""
 
     def begin() -> None:
         end_with_parent()

@@ -61,7 +61,7 @@ def looks_like(data: bytes) -> str:
 
 
 def write_all(file: int, data: bytes) -> None:
-    """Writes all of it: of one call a disk that is nearly full takes a part."""
+    """Writes all of it. One call may write less, as on a disk that is nearly full."""
     left = memoryview(data)
     while left:
         left = left[os.write(file, left) :]
