@@ -74,25 +74,43 @@ export async function propose(command, said, off) {
 }
 
 /**
- * A form whose button proposes what `make` gives: what is wrong with it, or a command and doubts.
+ * What a form's button does, once at a time: a press meanwhile does nothing, and the button keeps the focus.
+ * @param {() => any} run
+ */
+export function onceAtATime(run) {
+    let busy = false;
+    return async (/** @type {Event} */ event) => {
+        event.preventDefault();
+        if (busy) return;
+        busy = true;
+        try {
+            await run();
+        } finally {
+            busy = false;
+        }
+    };
+}
+
+/**
+ * A form whose button proposes what `make` reads from its fields: what is wrong with it, and the field
+ * where it is, if one is; or a command and doubts.
  * @param {string} title
  * @param {any[]} body
- * @param {(all: Known) => { fault: string } | { doubts: Doubt[], command: () => Command }} make
+ * @param {() => { fault: string, at?: HTMLElement } | { doubts: (all: Known) => Doubt[], command: () => Command }} make
  */
 export function form(title, body, make) {
     const said = answers();
     const fault = h('p', { class: 'fault', role: 'status' });
     const go = h('button', { type: 'submit', class: 'main' }, 'Propose');
-    const submit = async (/** @type {Event} */ event) => {
-        event.preventDefault();
+    const submit = onceAtATime(async () => {
         fill(said);
-        fault.textContent = '';
+        const made = make();
+        fault.textContent = 'fault' in made ? made.fault : '';
+        if ('fault' in made) return made.at?.focus();
         const all = await known();
         if ('kind' in all) return fill(said, refusalBox(all));
-        const made = make(all);
-        if ('fault' in made) return (fault.textContent = made.fault);
-        if (await settled(made.doubts)) await propose(made.command(), said, [go]);
+        if (await settled(made.doubts(all))) await propose(made.command(), said, [go]);
         return undefined;
-    };
+    });
     return formPart(title, submit, [body, fault, buttons(go)], said);
 }

@@ -4,7 +4,7 @@ import { box, field, fill, h, strong } from './dom.js';
 import { fileField, sha256 } from './files.js';
 import { certificateIn } from './pem.js';
 import { told } from './subject.js';
-import { digest, digestTyped } from './words.js';
+import { digest } from './words.js';
 
 /** The longest certificate that the desk lists. */
 export const MOST_CERTIFICATE = 65536;
@@ -15,7 +15,7 @@ export const MOST_CERTIFICATE = 65536;
  * `name` is the SHA-256 of its TBSCertificate, '' where the browser hashes only over https
  */
 
-/** Fields for one certificate: `digest` gives its name in dbx, or null while there is none. */
+/** Fields for one certificate: `typed` gives what stands there as its name in dbx. */
 export function certificateField() {
     const input = h('input', { type: 'text', class: 'mono', autocomplete: 'off', spellcheck: 'false' });
     const { place, said } = certificateFile('Its file', (it) => (input.value = it ? it.name : ''));
@@ -29,7 +29,7 @@ export function certificateField() {
                 'As “desk facts” prints it for an image. The fingerprint that openssl prints is another one.',
             ),
         ],
-        digest: () => digestTyped(input.value),
+        typed: () => input.value,
     };
 }
 

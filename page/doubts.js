@@ -6,9 +6,9 @@
  * `use` is what was probably meant; `idle` says that the entry would do nothing
  * @typedef {import('./requests.js').Request} Request
  * @typedef {import('./standing.js').Standing} Standing
- * @typedef {{ requests: Request[], now: Standing, files: Map<string, Request>, images: Map<string, Request>,
+ * @typedef {{ now: Standing, files: Map<string, Request>, images: Map<string, Request>,
  *   carriers: Map<string, Request[]>, fingerprints: Map<string, import('./standing.js').Listed>, names: Set<string> }} Known
- * all requests and the lists; requests by the SHA-256 of a whole file, by a digest and by a certificate that they carry;
+ * the lists; requests by the SHA-256 of a whole file, by a digest and by a certificate that they carry;
  * listed certificates by their fingerprints; the names of all components
  */
 
@@ -32,7 +32,7 @@ export function knownOf(requests, now) {
         for (const [one] of it.components) names.add(one);
     }
     const fingerprints = new Map([...now.listed.certificates.values()].map((it) => [it.fingerprint, it]));
-    return { requests, now, files, images, carriers, fingerprints, names };
+    return { now, files, images, carriers, fingerprints, names };
 }
 
 /**
@@ -103,6 +103,20 @@ export function certificateDoubts(digest, { now, files, images, fingerprints }) 
     });
     if (now.revoked.certificates.has(digest)) doubts.push({ text: `${short(digest)} is revoked already.` });
     return doubts;
+}
+
+/**
+ * openssl prints a certificate's fingerprint with colons.
+ * @param {string} typed a digest as it was typed
+ * @param {'image' | 'certificate'} of what it was typed as the digest of
+ * @returns {Doubt[]}
+ */
+export function colonDoubts(typed, of) {
+    if (!typed.includes(':')) return [];
+    const text = of === 'certificate'
+        ? 'It has colons, as a fingerprint has: the SHA-256 of the whole certificate, which bars nothing.'
+        : `${short(typed.trim())} has colons, as a certificate’s fingerprint has. As an image’s digest a fingerprint would do nothing.`;
+    return [{ text, idle: true }];
 }
 
 /**

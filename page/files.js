@@ -6,6 +6,9 @@ import { digest, hex, size } from './words.js';
 /** The longest image that the desk reads. */
 export const MOST_IMAGE = 134217728;
 
+/** What is said where an image that was chosen isn't read, or can't be. */
+export const UNREAD = 'The image isn’t read yet: wait, or take it out.';
+
 /**
  * @typedef {{ file: File, bytes: Uint8Array, sha256: string }} Chosen
  */

@@ -24,10 +24,12 @@ import { standing } from './standing.js';
 export async function postImage(path, chosen, bar) {
     const stop = new AbortController();
     const shown = h('progress', { max: 1, value: 0, 'aria-label': 'How much is sent' });
-    fill(bar, shown, button('Stop', () => stop.abort()));
+    const own = [shown, button('Stop', () => stop.abort())];
+    fill(bar, own);
     const progress = (/** @type {number} */ some, /** @type {number} */ whole) => (shown.value = whole > 0 ? some / whole : 1);
     const answer = await post(path, {}, chosen.bytes, { stop: stop.signal, progress });
-    fill(bar);
+    // (a newer upload may have put its own there)
+    for (const one of own) one.remove();
     return answer;
 }
 

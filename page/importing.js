@@ -23,18 +23,23 @@ export function importForm() {
     stampField.hidden = true;
     /** @type {Look | null} */
     let found = null;
+    let turn = 0;
     let present = 0;
     let name = '';
     const hint = 'Signature lists, as a published dbx; the desk’s CSV; a level’s text; or Microsoft’s dbx_info. Choose it, or drop it here.';
     const { place, input } = fileField('File', hint, async (chosen) => {
+        const its = ++turn;
         found = null;
         stampField.hidden = true;
+        fault.textContent = '';
         fill(inside);
         fill(said);
         if (!chosen) return;
         const all = await known();
+        if (its !== turn) return;
         if ('kind' in all) return fill(inside, refusalBox(all));
         const mine = await look(chosen.bytes, all);
+        if (its !== turn) return;
         found = mine;
         name = chosen.file.name;
         present = all.now.level.stamp;

@@ -1,11 +1,11 @@
 // For officers: a certificate or a digest is listed. One officer does it alone.
 
 import { act, refusalBox } from './act.js';
-import { known, settled } from './asking.js';
+import { known, onceAtATime, settled } from './asking.js';
 import { certificateFacts, certificateFile } from './certificate.js';
 import { answers, box, buttons, field, fill, h, p, strong, sure } from './dom.js';
-import { digestDoubts } from './doubts.js';
-import { fileField } from './files.js';
+import { colonDoubts, digestDoubts } from './doubts.js';
+import { UNREAD, fileField } from './files.js';
 import { besideOf, noFacts, postImage } from './images.js';
 import { Command, jsonCommand } from './keys.js';
 import { imageDoubts, knownBodies, signerDoubts } from './signer.js';
@@ -38,6 +38,10 @@ function certificateForm(done) {
         event.preventDefault();
         fault.textContent = chosen ? '' : 'Choose a certificate’s file.';
         if (!chosen) return file.input.focus();
+        if (!signed && image.input.files.length > 0) {
+            fault.textContent = UNREAD;
+            return image.input.focus();
+        }
         const it = chosen;
         go.disabled = true;
         fill(said);
@@ -89,16 +93,24 @@ function digestForm(done) {
     const fault = h('p', { class: 'fault', role: 'status' });
     const input = h('input', { type: 'text', class: 'mono', autocomplete: 'off', spellcheck: 'false' });
     const go = h('button', { type: 'submit', class: 'main' }, 'List this digest');
-    return h('form', { class: 'act', novalidate: true, onsubmit: async (/** @type {Event} */ event) => {
-        event.preventDefault();
-        const hex = digestTyped(input.value);
+    const submit = onceAtATime(async () => {
+        const typed = input.value;
+        const hex = digestTyped(typed);
         fault.textContent = hex ? '' : 'A digest is 64 hexadecimal digits.';
         if (!hex) return input.focus();
         const all = await known();
         if ('kind' in all) return fill(said, refusalBox(all));
         // (that it has two digests matters to a revocation alone)
-        const doubts = digestDoubts(hex, all).filter((it) => it.idle || !it.use);
+        const doubts = [...colonDoubts(typed, 'image'), ...digestDoubts(hex, all)].filter((it) => it.idle || !it.use);
         if (!(await settled(doubts, 'List it all the same'))) return undefined;
         return done(await act(jsonCommand('List a digest', '/db/digests', { digest: hex }), said, { off: [go] }));
-    } }, field('Digest of an image', input, 'Its Authenticode digest, as a request has it.'), fault, buttons(go), said);
+    });
+    return h(
+        'form',
+        { class: 'act', novalidate: true, onsubmit: submit },
+        field('Digest of an image', input, 'Its Authenticode digest, as a request has it.'),
+        fault,
+        buttons(go),
+        said,
+    );
 }

@@ -4,20 +4,21 @@
 import { form } from './asking.js';
 import { certificateField } from './certificate.js';
 import { field, fill, h, heading, quiet } from './dom.js';
-import { certificateDoubts, generationDoubts, stampDoubts, stampOf } from './doubts.js';
+import { certificateDoubts, colonDoubts, generationDoubts, stampDoubts, stampOf } from './doubts.js';
 import { imagesForm } from './imagesform.js';
 import { importForm } from './importing.js';
 import { jsonCommand } from './keys.js';
 import { standing } from './standing.js';
-import { counted } from './words.js';
+import { counted, digestTyped } from './words.js';
 
 function certificateForm() {
     const certificate = certificateField();
-    return form('Revoke a certificate', certificate.parts, (all) => {
-        const name = certificate.digest();
+    return form('Revoke a certificate', certificate.parts, () => {
+        const typed = certificate.typed();
+        const name = digestTyped(typed);
         if (!name) return { fault: 'Choose a certificate’s file, or give 64 hexadecimal digits.' };
         return {
-            doubts: certificateDoubts(name, all),
+            doubts: (all) => [...colonDoubts(typed, 'certificate'), ...certificateDoubts(name, all)],
             command: () => jsonCommand('Propose to revoke a certificate', '/dbx/certificates', { digest: name }),
         };
     });
@@ -58,9 +59,9 @@ function levelForm(place) {
             field('Stamp', stamp, 'The date and two digits.'),
         ),
         place,
-    ], (all) => {
-        const [n, s] = [generation.value, stamp.value].map(Number);
-        if (!/^[!-+\--~]{1,128}$/.test(name.value)) {
+    ], () => {
+        const [component, n, s] = [name.value, Number(generation.value), Number(stamp.value)];
+        if (!/^[!-+\--~]{1,128}$/.test(component)) {
             return { fault: 'A component’s name has no space and no comma, as shim or grub.debian.' };
         }
         if (!/^[1-9][0-9]*$/.test(generation.value) || n > 4294967295) {
@@ -70,12 +71,8 @@ function levelForm(place) {
             return { fault: 'A stamp has ten digits: the date and two more, as 2026112700.' };
         }
         return {
-            doubts: [...generationDoubts(name.value, n, all), ...stampDoubts(s, all.now.level.stamp)],
-            command: () => jsonCommand(
-                `Propose ${name.value} ${n}`,
-                '/level',
-                { component: name.value, generation: n, stamp: s },
-            ),
+            doubts: (all) => [...generationDoubts(component, n, all), ...stampDoubts(s, all.now.level.stamp)],
+            command: () => jsonCommand(`Propose ${component} ${n}`, '/level', { component, generation: n, stamp: s }),
         };
     });
 }

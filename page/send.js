@@ -3,7 +3,7 @@
 
 import { get } from './api.js';
 import { act, refusalBox } from './act.js';
-import { answers, box, button, buttons, field, fill, h, heading, p, section, strong } from './dom.js';
+import { answers, box, button, buttons, field, fill, h, heading, p, quiet, section, strong } from './dom.js';
 import { fileField } from './files.js';
 import { Command } from './keys.js';
 import { digest, textFault } from './words.js';
@@ -68,7 +68,9 @@ export function submitView(place) {
     const { place: drop, input } = fileField('EFI image', 'Choose it, or drop it here. At most 128 MiB.', async (chosen) => {
         file = chosen;
         fill(twice);
-        if (chosen && chosen.sha256) fill(twice, await sameFile(chosen.sha256));
+        if (!chosen?.sha256) return;
+        const told = await sameFile(chosen.sha256);
+        if (file === chosen) fill(twice, told);
     });
     const go = h('button', { type: 'submit', class: 'main' }, 'Submit');
     const form = h('form', { class: 'act', novalidate: true, onsubmit: async (/** @type {Event} */ event) => {
@@ -93,11 +95,9 @@ export function submitView(place) {
 /** Says where the same file was submitted before. @param {string} sha256 */
 async function sameFile(sha256) {
     const answer = await get('/requests');
-    const before = answer.kind === 'value' ? answer.value.filter(
-        (/** @type {Request} */ it) => it.file === sha256,
-    ) : [];
-    if (before.length === 0) return null;
-    const one = before[before.length - 1];
+    if (answer.kind !== 'value') return [p('Whether the same file was submitted before can’t be read:'), refusalBox(answer)];
+    const one = answer.value.filter((/** @type {Request} */ it) => it.file === sha256).pop();
+    if (!one) return null;
     return box(
         'care',
         'The same file was submitted before, as ',
@@ -106,10 +106,17 @@ async function sameFile(sha256) {
     );
 }
 
-/** @param {HTMLElement} said @param {number} number @param {string} sha256 @param {HTMLElement} form */
+/**
+ * What came of a submission. The form goes first: one that is still there is soon sent twice.
+ * @param {HTMLElement} said
+ * @param {number} number
+ * @param {string} sha256
+ * @param {HTMLElement} form
+ */
 async function arrived(said, number, sha256, form) {
-    const answer = await get(`/requests/${number}`);
     form.hidden = true;
+    fill(said, quiet(`This is request ${number}. Comparing its SHA-256…`));
+    const answer = await get(`/requests/${number}`);
     fill(said, box(
         'good',
         p(strong(`This is request ${number}. `), 'It is open: two reviewers have to agree.'),
@@ -141,6 +148,17 @@ export function returnForm(it, again) {
             : '';
     });
     const go = h('button', { type: 'submit', class: 'main' }, 'Return it');
+    const form = h('form', { class: 'act', onsubmit: async (/** @type {Event} */ event) => {
+        event.preventDefault();
+        if (!file) {
+            fault.textContent = 'Choose the signed file.';
+            return input.focus();
+        }
+        const chosen = file;
+        const command = new Command(`Return of request ${it.number}`, `/requests/${it.number}/return`, chosen.bytes);
+        const reply = await sent(command, bar, said, [go, input]);
+        return reply ? returned(said, it.number, chosen.sha256, form, again) : undefined;
+    } }, place, fault, buttons(go), bar);
     return section('Return the signed file',
         p(
             'The desk takes it if it is this image, its digest or a certificate that it carries is listed, and nothing bars it. ',
@@ -148,24 +166,28 @@ export function returnForm(it, again) {
             h('code', {}, 'sbverify'),
             ' first.',
         ),
-        h('form', { class: 'act', onsubmit: async (/** @type {Event} */ event) => {
-            event.preventDefault();
-            if (!file) {
-                fault.textContent = 'Choose the signed file.';
-                return input.focus();
-            }
-            const chosen = file;
-            const command = new Command(`Return of request ${it.number}`, `/requests/${it.number}/return`, chosen.bytes);
-            const reply = await sent(command, bar, said, [go, input]);
-            if (!reply) return undefined;
-            const answer = await get(`/requests/${it.number}`);
-            return again(
-                h(
-                    'div',
-                    { role: 'status' },
-                    box('good', strong('Returned. '), `Request ${it.number} is signed.`),
-                    answer.kind === 'value' ? compared(chosen.sha256, answer.value.returned) : null,
-                ),
-            );
-        } }, place, fault, buttons(go), bar), said);
+        form,
+        said);
+}
+
+/**
+ * What came of a return. The form goes first, as in `arrived`.
+ * @param {HTMLElement} said
+ * @param {number} number
+ * @param {string} sha256
+ * @param {HTMLElement} form
+ * @param {(said: any) => void} again
+ */
+async function returned(said, number, sha256, form, again) {
+    form.hidden = true;
+    fill(said, quiet(`Request ${number} is signed. Comparing its SHA-256…`));
+    const answer = await get(`/requests/${number}`);
+    again(
+        h(
+            'div',
+            { role: 'status' },
+            box('good', strong('Returned. '), `Request ${number} is signed.`),
+            answer.kind === 'value' ? compared(sha256, answer.value.returned) : null,
+        ),
+    );
 }
