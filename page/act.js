@@ -1,6 +1,6 @@
 // How a command is shown while it is under way, and its answer: one place for all forms.
 
-import { box, button, buttons, fill, h, p, quiet, strong } from './dom.js';
+import { box, button, buttons, fill, focusHeading, h, p, quiet, strong } from './dom.js';
 import { explained } from './refusals.js';
 
 /**
@@ -39,14 +39,15 @@ function elsewhere(command, answer) {
 }
 
 /**
- * Empties a view to show it anew, below what was just answered, which takes the focus.
+ * Empties a view to show it anew, below what was just answered, which takes the focus; without it the heading does.
  * @param {HTMLElement} place
  * @param {any[]} first what was answered, if anything
  */
 export function anew(place, first) {
     const said = h('div', { tabindex: '-1' }, first);
     fill(place, first.length > 0 ? said : null);
-    said.focus();
+    if (first.length > 0) said.focus();
+    else focusHeading(place);
 }
 
 /** @param {import('./keys.js').Command} command @param {HTMLElement} place */
@@ -56,7 +57,7 @@ function shows(command, place) {
         place,
         box('care', p(`${lostWords(command.lost)} Asking again with the same key…`)),
     );
-    if (command.state === 'lost') fill(place, lostBox(command));
+    if (command.state === 'lost') fill(place, (command.box = lostBox(command)));
 }
 
 /**
@@ -75,30 +76,27 @@ export function lostBox(command) {
 
 /** @param {import('./keys.js').Command} command @param {boolean} sent */
 function stopped(command, sent) {
-    const open = 'The desk may have accepted it. Done again on this page, it has the same key, so it takes effect once.';
-    return box(
-        'care',
-        p(
-            strong(`${command.what}: stopped.`),
-            ' ',
-            sent ? open : 'It hadn’t been sent whole, so the desk took nothing.',
-        ),
-    );
+    const open = sent
+        ? 'The desk may have accepted it.'
+        : 'As far as the browser tells, it hadn’t been sent whole; if so, the desk took nothing.';
+    const same = 'Done again on this page, it has the same key, so it takes effect once.';
+    return box('care', p(strong(`${command.what}: stopped.`), ` ${open} ${same}`));
 }
 
 /**
  * Why there is no answer that tells what the desk did.
- * @param {{ status: number, name?: string }} lost the name is that of a refusal by the desk
+ * @param {{ status: number, name?: string, number?: number }} lost the name and the number are those of a refusal
  */
-export function lostWords({ status, name }) {
+export function lostWords({ status, name, number }) {
+    const by = number ? `: ${name} (${number})` : '';
     if (status === 429) return 'Too many requests came from here at once (429), so the proxy refused this one.';
     if (status === 502) return 'The proxy couldn’t reach the desk (502): it may be restarting.';
     if (status === 504) return 'The desk didn’t answer the proxy in time (504).';
-    if (status === 503 && name) return `The desk has no memory, or its disk failed (503 ${name}).`;
+    if (status === 503 && by) return `The desk has no memory, or its disk failed (503)${by}.`;
     if (status === 503) return 'The desk is closed (503): somebody works on it. Nothing is lost by waiting.';
     if (status >= 500) return `The proxy failed (${status}).`;
     if (status === 200) return 'Something else answered in the desk’s place (200).';
-    if (status >= 400) return `This try was refused unread (${status}), which doesn’t tell what came of the one before.`;
+    if (status >= 400) return `This try was refused unread (${status})${by}. That doesn’t tell what came of the one before.`;
     return 'The connection was lost.';
 }
 
@@ -116,7 +114,7 @@ export function refusalBox(answer, again) {
         'bad',
         p(strong(`Refused: ${answer.name}${number}. `), why),
         todo ? p(todo) : null,
-        answer.name === 'NoRoute' ? null : more,
+        ['NoRoute', 'NoHashing'].includes(answer.name) ? null : more,
     );
 }
 
@@ -143,6 +141,7 @@ export async function read(place, ask, show) {
     }
     const said = h('div', { role: 'alert' }, refusalBox(answer, () => {
         said.remove();
+        focusHeading(place);
         read(place, ask, show);
     }));
     note.replaceWith(said);

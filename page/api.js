@@ -4,10 +4,10 @@
 
 /**
  * What came: a value of the desk, its refusal or its proxy's, no answer of the desk (`lost`: whether a
- * command was accepted is open), or a stop by the person, `sent` if all bytes had gone out by then.
+ * command was accepted is open), or a stop by the person, `sent` if the browser had told that all bytes are out.
  * @typedef {{ kind: 'value', value: any }
  *   | { kind: 'refused', status: number, name: string, number: number, at?: number, byDesk: boolean }
- *   | { kind: 'lost', status: number, name?: string }
+ *   | { kind: 'lost', status: number, name?: string, number?: number }
  *   | { kind: 'stopped', sent: boolean }} Answer
  */
 
@@ -51,8 +51,9 @@ function refusal(status, text) {
         // The proxy's own page, or nothing.
     }
     const name = typeof body?.name === 'string' ? body.name : '';
-    if (status === 0 || status === 429 || status >= 500 && status !== 501) return { kind: 'lost', status, name };
-    if (name !== '') return { kind: 'refused', status, name, number: Number(body.refused), at: body.at, byDesk: true };
+    const number = name === '' ? 0 : Number(body.refused);
+    if (status === 0 || status === 429 || status >= 500 && status !== 501) return { kind: 'lost', status, name, number };
+    if (name !== '') return { kind: 'refused', status, name, number, at: body.at, byDesk: true };
     const byStatus = { 401: ['UnknownCaller', 20], 413: ['TooLarge', 56] }[status];
     return {
         kind: 'refused',
@@ -87,6 +88,9 @@ export function pause(milliseconds, stop) {
     });
 }
 
+/** How long an answer may take once all is sent, in milliseconds; the proxy waits for 300 seconds. */
+const ANSWER = 330000;
+
 /** How long to wait before each further try of its own, in milliseconds. */
 export const PAUSES = [1000, 2000, 4000];
 
@@ -115,17 +119,26 @@ export async function get(path, as = 'json') {
  */
 async function once(path, as, signal) {
     if (signal.aborted) return never();
+    const ends = new AbortController();
+    const end = () => ends.abort();
+    const late = setTimeout(end, ANSWER);
+    signal.addEventListener('abort', end);
     try {
         const response = await fetch(
             path,
-            { headers: headers({}), cache: 'no-store', redirect: 'error', referrerPolicy: 'no-referrer', signal },
+            { headers: headers({}), cache: 'no-store', redirect: 'error', referrerPolicy: 'no-referrer', signal: ends.signal },
         );
+        // (what has begun to come may take its time)
+        clearTimeout(late);
         if (response.status !== 200) return refusal(response.status, await response.text());
         if (as === 'json') return { kind: 'value', value: await response.json() };
         if (as === 'text') return { kind: 'value', value: await response.text() };
         return { kind: 'value', value: new Uint8Array(await response.arrayBuffer()) };
     } catch {
         return signal.aborted ? never() : { kind: 'lost', status: 0 };
+    } finally {
+        clearTimeout(late);
+        signal.removeEventListener('abort', end);
     }
 }
 
@@ -142,12 +155,19 @@ export function post(path, fields, body, how = {}) {
         const request = new XMLHttpRequest();
         const { signal } = person;
         let sent = false;
+        let late = 0;
+        const giveUp = () => {
+            resolve({ kind: 'lost', status: 0 });
+            request.abort();
+        };
+        const waits = () => (late = setTimeout(giveUp, ANSWER));
         request.open('POST', path);
         for (const [name, value] of Object.entries(headers(fields))) request.setRequestHeader(name, value);
         request.upload.addEventListener('progress', (event) => how.progress?.(event.loaded, event.total));
         request.upload.addEventListener('load', () => {
             sent = true;
             how.progress?.(1, 1);
+            waits();
         });
         const stop = () => request.abort();
         for (const one of [how.stop, signal]) one?.addEventListener('abort', stop);
@@ -160,9 +180,12 @@ export function post(path, fields, body, how = {}) {
             ),
         );
         request.addEventListener('loadend', () => {
+            clearTimeout(late);
             for (const one of [how.stop, signal]) one?.removeEventListener('abort', stop);
         });
         request.send(body);
+        // (an upload of nothing has no events)
+        if (/** @type {any} */ (body).length === 0) waits();
     });
 }
 

@@ -123,6 +123,11 @@ export function heading(place, text, ...beside) {
     titled(`${text} · Kovelamiru`);
 }
 
+/** Gives the focus to the heading of the view, where a button that had it goes. @param {Element} place in the view */
+export function focusHeading(place) {
+    place.closest('.view')?.querySelector('h1')?.focus();
+}
+
 let [title, waits] = ['Kovelamiru', 0];
 
 /** The title of the window, with the count of what waits for the person. @param {string} [text] @param {number} [count] */

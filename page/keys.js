@@ -1,8 +1,8 @@
 // A command takes effect once. Its key is made with it and is sent with each try; it is kept until
 // an answer came that tells what the desk did. A lost answer is asked for again with the same key:
 // by itself three times, then by a button. Behind a lost answer a refusal by the proxy tells nothing, so it
-// counts as lost too. A command that was given up without an answer leaves its key to the next one
-// that says the same.
+// counts as lost too. A command without an answer, whether it still waits, was given up or was stopped,
+// shares its key with the next one that says the same.
 
 import { PAUSES, pause, post, settles } from './api.js';
 import { hex } from './words.js';
@@ -21,7 +21,7 @@ const STOPPED = { kind: 'stopped', sent: true };
 /** The commands under way, and those whose answer was lost. @type {Set<Command>} */
 export const unanswered = new Set();
 
-/** Those that were given up without an answer. @type {Set<Command>} */
+/** Those that were given up or stopped without an answer. @type {Set<Command>} */
 const left = new Set();
 
 /** Grows at each sign-out: a key of the person before is of no use. */
@@ -54,15 +54,19 @@ export class Command {
         this.path = path;
         this.body = body;
         this.fields = fields;
-        const before = [...left].find((other) => same(this, other))?.key;
+        const before = [...left, ...unanswered].find((other) => !other.answered && same(this, other))?.key;
         this.key = before ?? newKey();
         /** Whether a try under its key may have been taken, though no answer said so. */
         this.open = before !== undefined;
+        /** Whether another command with its key has an answer, so that nothing about the key is open. */
+        this.answered = false;
         this.turn = turn;
         /** `idle`, `sending`, `again` while it asks by itself, `lost` while it waits for the button */
         this.state = 'idle';
-        /** The last answer that didn't tell what the desk did. @type {{ status: number, name?: string }} */
+        /** The last answer that didn't tell what the desk did. @type {{ status: number, name?: string, number?: number }} */
         this.lost = { status: 0 };
+        /** Where the view that it was given in shows that its answer is lost. @type {HTMLElement | null} */
+        this.box = null;
         /** Ends the wait for the button. */
         this.release = (/** @type {boolean} */ _again) => {};
     }
@@ -123,7 +127,7 @@ export class Command {
     async send(how) {
         const answer = await post(this.path, { ...this.fields, 'Desk-Key': this.key }, this.body, how);
         if (answer.kind === 'refused' && this.open && !settles(answer)) {
-            return { kind: 'lost', status: answer.status, name: answer.name };
+            return { kind: 'lost', status: answer.status, name: answer.name, number: answer.number };
         }
         if (answer.kind === 'stopped' && this.open) return STOPPED;
         if (answer.kind === 'lost') this.open = true;
@@ -134,7 +138,9 @@ export class Command {
     ends(answer, show) {
         unanswered.delete(this);
         for (const other of left) if (other.key === this.key) left.delete(other);
-        if (answer.kind === 'stopped' && answer.sent && !this.isGone()) left.add(this);
+        // (however far it came: the browser may not know yet that all of it is sent)
+        if (answer.kind === 'stopped' && !this.answered && !this.isGone()) left.add(this);
+        if (settles(answer)) for (const other of unanswered) if (other.key === this.key) other.answered = true;
         this.becomes('idle', show);
         return answer;
     }

@@ -17,7 +17,7 @@ import { submitView } from './send.js';
 import { me, role, signIn, signOut, tokenFault } from './session.js';
 import { changed } from './standing.js';
 import { verdictView } from './verdict.js';
-import { beginWaiting, count, endWaiting, looked } from './waiting.js';
+import { beginWaiting, count, endWaiting } from './waiting.js';
 import { whyView } from './why.js';
 import { isNumber } from './words.js';
 
@@ -62,7 +62,6 @@ function show() {
         ),
     );
     part('who').textContent = `${me.name}, ${role()}`;
-    if (mine === 'requests') looked();
     const place = h('div', { class: 'view' });
     fill(part('main'), place);
     scrollTo(0, 0);
@@ -75,7 +74,7 @@ let under = 0;
 /** The commands whose answer is missing, on whatever view the person is. */
 function waiting() {
     const lost = [...unanswered].filter((command) => command.state === 'lost');
-    const elsewhere = lost.filter(() => !document.querySelector('main .answer .box.care'));
+    const elsewhere = lost.filter((command) => !part('main').contains(command.box));
     fill(part('waiting'), elsewhere.map(lostBox));
     if (unanswered.size < under && me.known) count();
     under = unanswered.size;
