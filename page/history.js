@@ -54,6 +54,8 @@ function list(place) {
     let turn = 0;
     /** How many lines were there at the last scan. */
     let seen = 0;
+    /** Whether the desk gave no more of them, which stays told. */
+    let failed = false;
     place.append(
         h('div', { class: 'tools' }, byKind.place),
         h('div', { class: 'tools filters' }, field('Person', person), field('Filter by text, name or digest', search)),
@@ -100,6 +102,7 @@ function list(place) {
 
     /** @param {number} count */
     function tell(count) {
+        if (failed) return;
         const { known, lines } = kept();
         const all = `${grouped(known)} calls`;
         told.textContent = known < lines.length
@@ -110,12 +113,14 @@ function list(place) {
     // (each time twice as many lines are here, so that it isn't done over and over)
     readOn(() => {
         if (!place.isConnected) return;
-        if (kept().known >= 2 * seen) scan(seen > 0);
-        else tell(0);
+        const { known, lines } = kept();
+        if (known >= 2 * seen) scan(seen > 0);
+        else if (known < lines.length) tell(0);
     }).then((answer) => {
         if (!place.isConnected) return;
-        if (answer.kind === 'value') scan(true);
-        else fill(told, h('span', { role: 'alert' }, refusalBox(answer)));
+        if (answer.kind === 'value') return scan(true);
+        failed = true;
+        return fill(told, h('span', { role: 'alert' }, refusalBox(answer)));
     });
     people(person, filter.person);
     byKind.show(filter.kind, counts);

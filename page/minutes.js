@@ -1,6 +1,6 @@
 // Minutes in words, by the table of sentences that deskctl has, too: minutes.json.
 
-import { counted } from './words.js';
+import { counted, joined } from './words.js';
 
 /**
  * A command's text with its reply's, by their words in order, and what they say; a call's two texts,
@@ -110,8 +110,7 @@ function counts(name, said) {
         const count = word.startsWith('NEW_') ? Number(said.values[word]) : items(said, word).length;
         return count > 0 ? counted(count, one, many) : '';
     }).filter((/** @type {string} */ it) => it !== '');
-    if (found.length < 2) return found[0] ?? none;
-    return `${found.slice(0, -1).join(', ')} and ${found[found.length - 1]}`;
+    return joined(found) || none;
 }
 
 /**

@@ -27,7 +27,7 @@ export const REFUSALS = {
     ],
     Der: [
         'There is no DER element, SignedData or certificate where one is needed.',
-        'If it is a PEM file, choose its DER form. If it is an image, its signature is damaged: sign it anew.',
+        'A certificate’s file has to hold one, in DER or PEM. If it is an image, its signature is damaged: sign it anew.',
     ],
     TwoSbat: ['Two sections are named `.sbat`.', 'Build the image with one section .sbat.'],
     SbatRow: [
@@ -38,10 +38,10 @@ export const REFUSALS = {
         'The input passes a stated limit of size or count.',
         'An image has at most 128 MiB, 64 certificates and 256 components; a certificate 64 KiB; an import 10,000 entries: send it in parts.',
     ],
-    Read: ['A device: a read failed or was interrupted, or a port can’t be opened.', RETRY],
+    Read: ['A device: a read failed or was interrupted, a port can’t be opened, or a connection can’t be accepted.', RETRY],
     List: [
         'There is no signature list there. The place is its offset in bytes.',
-        'Choose a file of signature lists without anything before them; deskctl takes headers off.',
+        'Choose a file of whole signature lists. A variable’s attributes and an update’s head before them are taken off here.',
     ],
     EntrySize: [
         'A signature list’s entries can’t have the size that it gives. The place is its offset in bytes.',
@@ -117,7 +117,7 @@ export const REFUSALS = {
         ADMIN,
     ],
     Version: ['The database holds a desk of a version that this program doesn’t know.', ADMIN],
-    File: ['A device: a file can’t be opened, or is in use.', ADMIN],
+    File: ['A device: a file can’t be opened or made, isn’t a database, or is in use.', ADMIN],
     Exists: ['The database has a table, an index or a view with a name of the desk’s already, so no desk is made in it.', ADMIN],
     Minute: [
         'A line of minutes isn’t the desk’s, isn’t what the rules give there, or isn’t whole. The place is its number from 1.',
@@ -143,11 +143,19 @@ export const REFUSALS = {
     NotSupported: ['The HTTP request has a Transfer-Encoding.', PAGE],
 };
 
+/** What the page itself refuses. @type {Record<string, [string, string]>} */
+const OWN = {
+    NoHashing: [
+        'The page can’t work out a SHA-256 here, so it can’t tell what is listed: browsers do it over https or at localhost alone.',
+        'Open the desk over https, or on its own machine at localhost.',
+    ],
+};
+
 /**
  * A refusal in words.
  * @param {{ name: string, at?: number, status: number }} answer
  */
 export function explained(answer) {
-    const [why, todo] = REFUSALS[answer.name] ?? ['The proxy refused it, not the desk.', RETRY];
+    const [why, todo] = REFUSALS[answer.name] ?? OWN[answer.name] ?? ['The proxy refused it, not the desk.', RETRY];
     return { why: answer.at === undefined ? why : `${why} Here it is ${answer.at}.`, todo };
 }

@@ -83,10 +83,14 @@ function withdrawPart(it, again) {
     return may ? withdrawForm(it, again) : '';
 }
 
+const SUBMITTED = 'This is about the submitted file. The returned one may be barred by a certificate that it carries: '
+    + 'look under “Check an image”.';
+
 /** What stands out, worked out in the page. @param {Request} it @param {import('./standing.js').Standing} now */
 function findings(it, now) {
     const barred = barredBy(now, it);
     const found = [];
+    if (it.returned) found.push(['note', SUBMITTED]);
     if (barred) found.push(['bad', `Barred today: ${ruleWords(barred.verdict, barred)}.`]);
     found.push(listing(it, now));
     if (it.components.length === 0) {

@@ -5,6 +5,7 @@ import { read } from './act.js';
 import { field, h, heading, quiet } from './dom.js';
 import { me, withYou } from './session.js';
 import { choices, paged } from './table.js';
+import { looked } from './waiting.js';
 import { badge, counted, size } from './words.js';
 
 /**
@@ -37,7 +38,10 @@ export function requestsView(place) {
         me.submitter ? h('a', { href: '#/submit', class: 'button main' }, 'Submit an image') : null,
     );
     if (me.submitter && !me.reviewer) place.append(quiet('You see the requests that you submitted.'));
-    read(place, () => get('/requests'), (requests) => queue(place, requests));
+    read(place, () => get('/requests'), (requests) => {
+        if (place.isConnected) looked(requests);
+        queue(place, requests);
+    });
 }
 
 /** @param {HTMLElement} place @param {Request[]} requests */

@@ -31,8 +31,12 @@ export function changed() {
     turn += 1;
 }
 
+/** What comes where certificates can't be named, since their SHA-256 can't be worked out. @type {import('./api.js').Answer} */
+const NO_HASHING = { kind: 'refused', status: 0, name: 'NoHashing', number: 0, byDesk: false };
+
 /** @returns {Promise<import('./api.js').Answer>} of a Standing */
 export async function standing() {
+    if (!crypto.subtle) return NO_HASHING;
     if (kept && Date.now() - kept.at < FRESH) return { kind: 'value', value: kept.value };
     const [at, mine] = [Date.now(), turn];
     const answers = await Promise.all([get('/level', 'text'), get('/db', 'bytes'), get('/dbx', 'bytes')]);

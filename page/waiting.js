@@ -12,8 +12,6 @@ const REST = 100;
 let turn = 0;
 /** How one's own requests were when they were last looked at. @type {Map<number, string> | null} */
 let before = null;
-/** @type {Map<number, string>} */
-let now = new Map();
 
 /** Looks from now on, until the sign-out. */
 export async function beginWaiting() {
@@ -29,14 +27,14 @@ export async function beginWaiting() {
 export function endWaiting() {
     turn += 1;
     before = null;
-    now = new Map();
     titled('Kovelamiru', 0);
 }
 
-/** The person looks at the requests: none of them has changed since. */
-export function looked() {
-    before = before && now;
-    if (me.submitter && !me.reviewer) titled(undefined, 0);
+/** The person looks at these, which are all: what changes from now on is counted. @param {import('./requests.js').Request[]} all */
+export function looked(all) {
+    if (me.officer) return;
+    before = ownOf(all);
+    titled(undefined, requests(all));
 }
 
 /** Looks once. An answer that doesn't come leaves the count as it was. */
@@ -54,11 +52,16 @@ function proposals(all) {
 
 /** @param {import('./requests.js').Request[]} all */
 function requests(all) {
-    const own = all.filter((it) => it.submitter === me.name);
-    now = new Map(own.map((it) => [it.number, `${it.state} ${it.votes.map((vote) => vote.reviewer + vote.vote)}`]));
+    const now = ownOf(all);
     before ??= now;
-    const changed = own.filter((it) => (before?.get(it.number) ?? 'open ') !== now.get(it.number)).length;
+    const changed = [...now].filter(([number, how]) => (before?.get(number) ?? 'open ') !== how).length;
     return changed + all.filter(waits).length;
+}
+
+/** How one's own requests are, by their numbers. @param {import('./requests.js').Request[]} all @returns {Map<number, string>} */
+function ownOf(all) {
+    const own = all.filter((it) => it.submitter === me.name);
+    return new Map(own.map((it) => [it.number, `${it.state} ${it.votes.map((vote) => vote.reviewer + vote.vote)}`]));
 }
 
 /** Whether a request waits for this person. @param {import('./requests.js').Request} it */

@@ -59,12 +59,16 @@ export function badge(state) {
  */
 export function digest(digest, what) {
     const text = h('code', { class: 'digest' }, digest);
-    const copy = button('Copy', async () => {
+    const copy = button('', async () => {
         if (!(await copied(digest))) getSelection()?.selectAllChildren(text);
-        else copy.textContent = 'Copied';
-        setTimeout(() => (copy.textContent = 'Copy'), 2000);
+        else says('Copied');
+        setTimeout(() => says('Copy'), 2000);
     }, 'small');
-    copy.setAttribute('aria-label', `Copy ${what}`);
+    const says = (/** @type {string} */ word) => {
+        copy.textContent = word;
+        copy.setAttribute('aria-label', `${word} ${what}`);
+    };
+    says('Copy');
     return h('span', { class: 'copied' }, text, ' ', copy);
 }
 
