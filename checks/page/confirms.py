@@ -48,6 +48,8 @@ def blind(browser: Browser, place: Place) -> None:
         fail("a Confirm is offered though the page couldn’t compare what is named")
     browser.devtools("Network.setBlockedURLs", urls=[])
     browser.press("Look again")
+    if browser.script("return document.activeElement.tagName") != "H1":
+        fail("nothing has the focus once it is looked again")
     # The requests can't be read any more once the last question is answered.
     browser.press("Confirm…")
     browser.sees(f"Confirm proposal {number} for good?")

@@ -117,7 +117,8 @@ def revocations_by_page(browser: Browser, at_hand: Dict[str, Path]) -> None:
     browser.sign_in(token("olga"))
     browser.go("propose")
     browser.fill("Digests, one a line", DIGEST.upper())
-    browser.press("Propose")
+    # (as a double click does: it is proposed once)
+    browser.script("const it = [...document.querySelectorAll('main button')].find((one) => one.textContent === 'Propose'); it.click(); it.click();")
     browser.sees("This is proposal 1.")
     browser.go("proposals/1")
     browser.sees("You proposed it")
@@ -169,6 +170,7 @@ def rest_by_page(browser: Browser, place: Place, at_hand: Dict[str, Path]) -> No
     # The request's own view says what the lists say of it now.
     browser.go("requests/1")
     browser.sees("Barred today: grub 3, where the level requires 4.")
+    browser.sees("The returned one may be barred by a certificate that it carries")
     browser.sees("below the level: barred")
     browser.sees("neither listed nor revoked")
     browser.sign_in(token("olga"))

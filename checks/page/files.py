@@ -67,8 +67,9 @@ import('/page/asking.js').then((asking) => asking.known()).then(async (known) =>
 # What the page says of an answer of the proxy, by its status.
 STATUSES = {
     "{status: 0}": "The connection was lost.", "{status: 429}": "Too many requests", "{status: 502}": "couldn’t reach the desk (502)",
-    "{status: 503, name: 'Store'}": "its disk failed (503 Store)", "{status: 503, name: ''}": "The desk is closed (503)", "{status: 504}": "in time (504)",
-    "{status: 500}": "The proxy failed (500).", "{status: 404}": "refused unread (404)", "{status: 200}": "in the desk’s place (200)",
+    "{status: 503, name: 'Store', number: 41}": "its disk failed (503): Store (41).", "{status: 503, name: '', number: 0}": "The desk is closed (503)",
+    "{status: 504}": "in time (504)", "{status: 500}": "The proxy failed (500).", "{status: 404}": "refused unread (404). ",
+    "{status: 401, name: 'UnknownCaller', number: 20}": "refused unread (401): UnknownCaller (20). ", "{status: 200}": "in the desk’s place (200)",
 }
 
 

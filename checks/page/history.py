@@ -100,6 +100,23 @@ def asked(browser: Browser, place: Place, file: str, digest: str) -> None:
     browser.sees(why)
 
 
+def unread(browser: Browser) -> None:
+    """That the desk gives no more of the minutes stays told, whatever is filtered."""
+    browser.module("api.js", "it.PAUSES.fill(50)")
+    browser.devtools("Network.enable")
+    browser.devtools("Network.setBlockedURLs", urls=["*/minutes/*"])
+    browser.go("requests")
+    browser.go("history")
+    browser.sees("No answer.")
+    browser.fill(FILTER, "voted")
+    browser.sees("rita voted yes")
+    if "No answer." not in browser.text():
+        fail("a fault of the minutes is told no more")
+    browser.fill(FILTER, "")
+    browser.devtools("Network.setBlockedURLs", urls=[])
+    browser.module("api.js", "it.PAUSES.splice(0, 3, 1000, 2000, 4000)")
+
+
 def for_others(browser: Browser) -> None:
     """No other role has a link to the history, nor is shown it at its address; nothing of it is left for the next person."""
     browser.sign_in(token("rita"))

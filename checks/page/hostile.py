@@ -11,6 +11,8 @@ from relay import HOLD, LOSE, NOT_FOUND
 
 MARKUP = "<img src=x onerror=\"document.title='taken'\"><b>bold</b>"
 LONG = "W" * 120
+# As openssl prints a fingerprint.
+COLONS = ":".join(["AB"] * 32)
 
 OTHER = """<!DOCTYPE html><title>other</title><iframe id="frame" src="BASE/"></iframe>
 <form id="form" method="post" action="BASE/requests/1/withdraw" target="sink" enctype="text/plain"></form><iframe name="sink"></iframe>
@@ -218,8 +220,13 @@ def slips(browser: Browser, place: Place) -> None:
     for given, told, meant in ((facts["file"], "the SHA-256 of the whole file", [facts["digest"], facts["signing"]]), (tbs, "names a certificate", []), (facts["digest"], "has two digests", [facts["signing"]])):
         browser.fill("Digests, one a line", given)
         slip(browser, told, meant)
+    browser.fill("Digests, one a line", f"{'a' * 64}\n\n{'a' * 63}")
+    browser.press("Propose")
+    browser.sees("Line 3 isn’t 64 hexadecimal digits.")
+    browser.fill("Digests, one a line", COLONS)
+    slip(browser, "AB:AB:AB… has colons", [])
     browser.go("propose/certificate")
-    for given, told, meant in ((fingerprint, "the fingerprint", [tbs]), (facts["digest"], "of an image", [])):
+    for given, told, meant in ((fingerprint, "the fingerprint", [tbs]), (COLONS, "It has colons, as a fingerprint has", []), (facts["digest"], "of an image", [])):
         browser.fill("Or the SHA-256 of its TBSCertificate", given)
         slip(browser, told, meant)
     browser.go("propose/level")

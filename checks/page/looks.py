@@ -66,6 +66,7 @@ def certificates(browser: Browser, place: Place, at: Dict[str, Path]) -> None:
     """An elliptic key, a CA, a revoked one, a revoked issuer that is listed no more; a file that is no image beside them."""
     browser.sign_in(token("olga"))
     asked(browser, at["ec.der"], [], ["Its key isn’t RSA.", "EC, P-384"], ["It is a CA’s."])
+    waits(browser, "An image that its key signed", "List this certificate")
     asked(browser, at["ca.der"], [at["signed.efi"]], ["It is a CA’s.", "signed.efi doesn’t carry it.", "(CN=Image signer)"], ["isn’t RSA"])
     doubts = ["isn’t RSA", "It is a CA’s.", "doesn’t carry it", "is revoked"]
     asked(browser, at["leaf.der"], [at["signed.efi"]], ["signed.efi carries it."], doubts)
@@ -101,6 +102,13 @@ def verdicts(browser: Browser, place: Place, at: Dict[str, Path]) -> None:
     checked(browser, at["notes.txt"], ["Refused: NoMz (2)."], ["The same"])
 
 
+def waits(browser: Browser, label: str, button: str) -> None:
+    """Nothing goes out while an image that is chosen isn't read."""
+    browser.script("const files = new DataTransfer(); files.items.add(new File(['x'], 'slow.efi')); arguments[0].files = files.files", browser.field(label))
+    browser.press(button)
+    browser.sees("The image isn’t read yet: wait, or take it out.")
+
+
 def checked(browser: Browser, path: Path, told: Sequence[str], untold: Sequence[str] = ()) -> None:
     anew(browser, "check")
     chosen(browser, "EFI image", path)
@@ -129,6 +137,7 @@ def compared(browser: Browser, place: Place, at: Dict[str, Path]) -> None:
     looked(browser, "a file beside a request")
     browser.sign_in(token("olga"))
     browser.go("propose")
+    waits(browser, "An image", "Propose")
     browser.drop("An image", at["odd.efi"])
     browser.sees("No request that you see has this image.")
     typed = browser.field("Digests, one a line").get_attribute("value")
@@ -158,3 +167,8 @@ def who(browser: Browser, place: Place) -> None:
     browser.sees("You submitted this request, so another reviewer has to vote.")
     if any(one.text == "Vote yes" for one in browser.all("button")):
         fail("a vote on one’s own request is offered")
+    # As over http from another machine: the lists' certificates can't be named.
+    browser.script("Object.defineProperty(crypto, 'subtle', {value: undefined, configurable: true})")
+    browser.go("lists")
+    browser.sees("The page can’t work out a SHA-256 here")
+    browser.script("delete crypto.subtle")

@@ -181,6 +181,33 @@ async function keys() {
     assert.equal((await command().run()).kind, 'refused');
     await command().run();
     assert.equal(new Set(settled.keys).size, 2);
+    // A stop doesn't, however far the upload came.
+    const halted = new Line(['never'], [200, DONE]);
+    const stop = new AbortController();
+    const stopped = command().run(() => {}, { stop: stop.signal });
+    stop.abort();
+    assert.deepEqual(await stopped, { kind: 'stopped', sent: false });
+    await command().run();
+    assert.equal(new Set(halted.keys).size, 1);
+    // One that says the same as one that waits has its key; once it is answered, the next one has another.
+    const shared = new Line([0], [0], [0], [0], [200, DONE], [200, DONE]);
+    const first = command();
+    let waits;
+    await new Promise((resolve) => {
+        waits = first.run((of) => of.state === 'lost' && resolve());
+    });
+    assert.equal((await command().run()).kind, 'value');
+    first.forget();
+    assert.equal((await waits).kind, 'stopped');
+    await command().run();
+    assert.deepEqual([shared.keys.length, new Set(shared.keys.slice(0, 5)).size, new Set(shared.keys).size], [6, 1, 2]);
+    // What is never answered is lost after a time, and is asked for again.
+    const silent = new Line(['never'], [200, DONE]);
+    const inTime = globalThis.setTimeout;
+    globalThis.setTimeout = (act, time) => inTime(act, Math.min(time ?? 0, 5));
+    assert.equal((await new Command('Withdraw', '/requests/1/withdraw', '').run()).kind, 'value');
+    globalThis.setTimeout = inTime;
+    assert.deepEqual([silent.keys.length, new Set(silent.keys).size], [2, 1]);
     // One who signs out hears of nothing more, and leaves no key.
     const gone = new Line(['never'], [200, DONE]);
     let heard = false;

@@ -98,6 +98,7 @@ def histories(program: Program, browser: Browser, folder: Path) -> str:
     with Place(program, "history") as place:
         browser.base = place.base
         history.in_words(browser, place, folder)
+        history.unread(browser)
         told("the history in words, and why")
         history.for_others(browser)
         history.title(browser, place)
