@@ -10,7 +10,7 @@
 # server that is no desk. It is killed at each of its steps, and what is published is then the old
 # files or the new ones, whole. Another user checks each publication with its sums and their
 # signature, as its help says, and a mirror takes one publication while the next is made. efitools and
-# dbxtool read what was published. Then the desk is asked over HTTP while it serves. At last shim-dbx.esl
+# dbxtool read what was published. Then the desk is asked over HTTP while it serves, also a busy one. At last shim-dbx.esl
 # is what efitools makes of the same certificates, by `desk shim`, `desk audit` and desk-publish, and no
 # slip in it is published; index.html and dbx.json are those of the lists, by a reading of their own that
 # finds each slip, with no markup and no word that a person typed. It needs curl, efitools, dbxtool
@@ -343,6 +343,14 @@ until_listens "$!" "$mirror_port" || fail "the mirror: $(cat mirror.log)"
 for where in mirror/audit.txt "$mirror"; do
     publish 1 "refused witness: they have 5 calls, and those of $where 11: an older copy of the desk" --witness "$where"
 done
+# Also where what was published is lost.
+mkdir lost
+mv out lost
+mkdir out
+publish 1 "refused witness: they have 5 calls, and those of $mirror 11: an older copy of the desk" --first --witness "$mirror"
+[ ! -e out/published ] || fail 'an older copy is published first'
+rm -r out
+mv lost/out .
 for number in 1 2 3 4 5 6; do
     text "{\"digest\":\"$(printf '%064d' "7$number")\"}"
     called oscar "k-other-$number" /dbx/digests body
@@ -472,6 +480,10 @@ text "{\"digest\":\"$(printf '%064d' 8)\"}"
 called olga k-digest-8 /dbx/digests body
 publish 0 'calls 17: published' --key publisher
 [ "$(sed -n 's/^# date //p' out/published/SHA256SUMS)" = "$date" ] || fail "an earlier date than the last: $(cat out/published/SHA256SUMS)"
+cp out/published/SHA256SUMS sums
+sed -i "s/^# date .*/# date $(date -u -d '2 days' +%Y-%m-%dT%H:%M:%SZ)/" out/published/SHA256SUMS
+publish 0 'ahead of this clock' --renew 24
+cp sums out/published/SHA256SUMS
 
 # The unit: a run that hangs fails; it takes no port.
 for line in TimeoutStartSec=10min SocketBindDeny=any; do
@@ -498,6 +510,9 @@ curl -sS -H 'Desk-Token: otto-token-for-the-desk' -H 'Desk-Key: k-http' -d '' "h
 asks 0 'calls 18: published' --token-file olga.token --public-minutes
 shows 18
 [ "$(stat -c %a out/published/minutes.txt)" = 644 ] || fail 'the mode of public minutes'
+# Without the option they are no more public, at once.
+asks 0 'calls 18: nothing new' --token-file olga.token
+[ "$(stat -c %a out/published.*/minutes.txt | sort -u)" = 600 ] || fail "the mode of minutes that were public: $(ls -l out/published.*/minutes.txt)"
 asks 3 'GET /minutes/1: 403' --token-file ann.token
 chmod 640 olga.token
 asks 2 'others can read' --token-file olga.token
@@ -509,6 +524,48 @@ fi
 kill "$server"
 wait "$server" 2> /dev/null || :
 is_desks
+# A busy desk: a call comes behind each of the first seven lists, and the earlier minutes are fetched once.
+cat > busy.py << 'end'
+import http.server
+import re
+import subprocess
+import sys
+
+PORT, PROGRAM = sys.argv[1:]
+FILES = {name: subprocess.run([PROGRAM, name, "desk.db"], check=True, stdout=subprocess.PIPE).stdout for name in ("minutes", "dbx", "db", "level")}
+LINES = FILES["minutes"].splitlines(keepends=True)
+shown = len(LINES) - 7
+
+
+class Busy(http.server.BaseHTTPRequestHandler):
+    def do_GET(self):
+        global shown
+        number = re.fullmatch("/minutes/([0-9]+)", self.path)
+        text = b"".join(LINES[int(number[1]) - 1 : shown]) if number else FILES[self.path[1:]]
+        shown = min(shown + (self.path == "/level"), len(LINES))
+        self.send_response(200)
+        self.send_header("Content-Length", str(len(text)))
+        self.end_headers()
+        self.wfile.write(text)
+        print(self.path, flush=True)
+
+    def log_message(self, *_):
+        pass
+
+
+http.server.HTTPServer(("127.0.0.1", int(PORT)), Busy).serve_forever()
+end
+python3 busy.py "$lying_port" "$program" > busy.log 2>&1 &
+busy=$!
+until_listens "$busy" "$lying_port" || fail "a busy desk: $(cat busy.log)"
+quickly 0 'calls 18: nothing new' --url "http://127.0.0.1:$lying_port" --token-file olga.token
+[ "$(grep -c '^/level$' busy.log)/$(grep -c '^/minutes/1$' busy.log)" = 8/1 ] || fail "of a busy desk is asked: $(cat busy.log)"
+changed few desk_http.py 's/^MOST_CALLS = 1_000_000$/MOST_CALLS = 17/'
+if few/desk-publish out/published --owner "$owner" --program "$program" --url "http://127.0.0.1:$lying_port" --token-file olga.token > said 2>&1 \
+    || ! grep -q 'no desk has more than 17 calls' said; then fail "a desk with more calls than a desk has: $(cat said)"; fi
+found=$((found + 1))
+kill "$busy"
+wait "$busy" 2> /dev/null || :
 # A server that says 200 to all, and is no desk; and one whose answer never ends, or is as long as may be.
 cat > lies.py << 'end'
 import http.server

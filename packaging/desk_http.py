@@ -12,8 +12,10 @@ import urllib.parse
 from typing import NoReturn, Tuple
 
 DONE, REFUSED, WORDS, DEVICE = 0, 1, 2, 3
-# How long a desk's answer may take from its first byte on, and be: a list of 10,000 certificates has 625 MiB.
+# How long a desk's answer may take from its body's first byte on, and be: a list of 10,000 certificates has 625 MiB.
 ANSWER_SECONDS, ANSWER_BYTES = 300, 1 << 30
+# How many calls a desk accepts.
+MOST_CALLS = 1_000_000
 
 
 class Stop(Exception):
@@ -79,13 +81,19 @@ class Http:
 
     def __init__(self, words: argparse.Namespace):
         url = words.url
-        parts = urllib.parse.urlsplit(url)
+        try:
+            parts = urllib.parse.urlsplit(url)
+            self.host, self.port = parts.hostname, parts.port
+        except ValueError:
+            wrong(f"{url} is no URL of a desk")
         if parts.scheme not in ("http", "https") or not parts.hostname or parts.path.strip("/") or parts.query:
             wrong(f"{url} is no URL of a desk")
         if parts.scheme == "http" and (words.cert or parts.hostname != "127.0.0.1"):
             wrong(f"{url}: a certificate takes https" if words.cert else f"http to {parts.hostname} would show the token to others: use https")
-        self.host, self.port = parts.hostname, parts.port
-        self.tls = ssl.create_default_context(cafile=words.ca) if parts.scheme == "https" else None
+        try:
+            self.tls = ssl.create_default_context(cafile=words.ca) if parts.scheme == "https" else None
+        except OSError as error:
+            broken(f"the certificates {words.ca}: {error.strerror or error}")
         self.fields = {} if words.cert else {"Desk-Token": read_token(words.token_file)}
         if self.tls and words.cert:
             first_line_of_own(words.cert_key, "the private key")
@@ -130,14 +138,16 @@ class Http:
         numbered = (line.startswith(b"%d\t" % at) for at, line in enumerate(lines.split(b"\n")[:-1], number))
         if lines and not (lines.endswith(b"\n") and all(numbered)):
             broken(f"GET /minutes/{number}: what came isn't minutes")
+        if number + lines.count(b"\n") > MOST_CALLS + 1:
+            broken(f"GET /minutes/{number}: no desk has more than {MOST_CALLS:,} calls")
         return lines
 
-    def minutes(self) -> bytes:
-        """All of the minutes."""
-        found, last = [], 0
-        while lines := self.lines_from(last + 1):
+    def minutes(self, number: int = 1) -> bytes:
+        """The minutes from this line on, all of them."""
+        found = []
+        while lines := self.lines_from(number):
             found.append(lines)
-            last += lines.count(b"\n")
+            number += lines.count(b"\n")
         return b"".join(found)
 
 
