@@ -63,6 +63,28 @@ class Standby:
         self.thread.join()
 
 
+def content(path):
+    with open(path, "rb") as file:
+        return file.read()
+
+
+def harmless(standby):
+    """With its words swapped it changes neither file; and no fault is told as a refusal."""
+    paths = [standby.db, standby.minutes]
+    before = [content(path) for path in paths]
+    script, _, _, *options = standby.words
+    for words, status, said in (
+        ([*reversed(paths), *options], 2, b" isn't minutes: its line 1 doesn't begin with its number\n"),
+        ([*paths, *options, "--url", "https://127.0.0.1:84443"], 2, b" is no URL of a desk\n"),
+        ([*paths, *options, "--url", "https://127.0.0.1:1", "--ca", "none.pem"], 3, b" none.pem: No such file or directory\n"),
+    ):
+        done = subprocess.run([sys.executable, "-IB", script, *words], capture_output=True, timeout=300, check=False)
+        if done.returncode != status or not done.stderr.endswith(said) or done.stderr.count(b"\n") != 1:
+            fail(f"desk-standby {words}: {done.returncode} {done.stderr!r}")
+    if [content(path) for path in paths] != before:
+        fail("swapped words change a file")
+
+
 def kills(server, standby):
     """Kills the server at some moment after the standby has followed twice."""
     while standby.runs < 2 and standby.thread.is_alive():
@@ -107,6 +129,7 @@ def main():
             answered = works(server, steps, standby)
             server.process.wait()
             standby.let_go()
+        harmless(standby)
         # The last minutes that were fetched are followed to their end; what was fetched of one line more isn't one.
         with open(standby.minutes, "rb+") as file:
             data = file.read()
