@@ -91,7 +91,7 @@ has_places() {
     if grep -q '/etc/\|/usr/share/' "$made"; then fail "packaging/$from has other files than this check knows: $(grep '/etc/\|/usr/share/' "$made")"; fi
 }
 sited nginx.conf > site.conf
-has_places nginx.conf site.conf "server 127.0.0.1:$port;" "$listen" "$room/site.pem;" "$room/site.key;" "include $room/kovelamiru-desk.leaked*;" \
+has_places nginx.conf site.conf "server 127.0.0.1:$port;" "$listen" "$room/site.pem;" "$room/site.key;" "include $room/kovelamiru-desk.leake[d];" \
     "-e $room/kovelamiru-desk.closed)"
 {
     if [ "$(id -u)" -eq 0 ]; then echo 'user root root;'; fi
@@ -495,6 +495,8 @@ for form in "$(token_of olga)$tab" "$tab$(token_of olga)" "$(token_of olga)$cont
 done
 ask olga /proposals/13
 grep -q '"state":"open"' body || fail "a leaked token confirmed: $(cat body)"
+# A backup of the list isn't read.
+mv kovelamiru-desk.leaked kovelamiru-desk.leaked~
 : > kovelamiru-desk.leaked
 rereads
 ask otto /level
@@ -584,7 +586,7 @@ people_are() {
 people_are "olga/$(token_of olga)" "otto/$(token_of otto)"
 sited nginx-certificates.conf > site.people.conf
 has_places nginx-certificates.conf site.people.conf "listen 127.0.0.1:$own ssl;" "$room/people.pem;" "$room/people.key;" "$room/ca.pem;" "$room/ca.crl;" \
-    "include $room/kovelamiru-desk.people;" "include $room/kovelamiru-desk.machines*;" "-e $room/kovelamiru-people.closed)"
+    "include $room/kovelamiru-desk.people;" "include $room/kovelamiru-desk.machine[s];" "-e $room/kovelamiru-people.closed)"
 "$nginx" -t -q -p "$room/" -e "$room/error.log" -c nginx.conf 2> said || fail "nginx -t: $(cat said)"
 # It also stands alone, beside the names of the other site.
 mkdir no-tokens
@@ -708,14 +710,24 @@ cmp -s copied published/minutes.txt || fail 'desk-standby: other minutes'
 head -c 700 published/minutes.txt > copied
 read_by desk-standby copy.db copied --program true > said 2>&1 || fail "desk-standby after a stop: $(cat said)"
 cmp -s copied published/minutes.txt || fail 'desk-standby after a stop: other minutes'
-head -n 3 published/minutes.txt | sed '3s/$/ /' > copied
+printf '#!/bin/sh\nkill -9 $$\n' > killed
+chmod +x killed
+got=0
+read_by desk-standby copy.db copied --program "$room/killed" > said 2>&1 || got=$?
+if [ "$got" -ne 3 ] || ! grep -q '^desk-standby: .* signal 9 ended it$' said; then fail "desk-standby of a program that is killed: status $got, $(cat said)"; fi
+{
+    head -n 3 published/minutes.txt | sed '3s/$/ /'
+    printf 4
+} > copied
+cp copied copied.before
 read_by desk-standby copy.db copied --program true > said 2>&1 && fail 'desk-standby of another desk'
 grep -q "^desk-standby: refused minutes: line 3 of copied isn't the desk's" said || fail "desk-standby of another desk: $(cat said)"
+cmp -s copied copied.before || fail 'desk-standby of another desk: it changes the minutes'
 chmod 644 robot.key
 read_by desk-standby copy.db copied --program true > said 2>&1 && fail 'a key that others can read'
 grep -q '^desk-standby: others can read the private key robot.key: chmod 600$' said || fail "a key that others can read: $(cat said)"
 chmod 600 robot.key
-rm kovelamiru-desk.machines
+mv kovelamiru-desk.machines kovelamiru-desk.machines.bak
 reread 'a machine, taken out of the list' 403 robot
 # session STATUS NAME VERSION PORT WORD..: the level in this version of TLS, with a session that is kept
 # or taken up, is answered so. (curl keeps none between its runs.)
@@ -760,7 +772,7 @@ desk minutes desk.db > minutes
 # ---- the log
 
 grep -q '^20[0-9T:+-]* 127\.0\.0\.1 POST /requests 200 [0-9.]* "k1"$' kovelamiru-desk.log || fail "the log: $(tail -n 3 kovelamiru-desk.log)"
-grep -q '"CN=otto,O=Example" POST /proposals/15/confirm 200 [0-9.]* "of-otto"$' kovelamiru-desk.log || fail "the log: $(tail -n 3 kovelamiru-desk.log)"
+grep -q ' 127\.0\.0\.1 POST /proposals/15/confirm 200 [0-9.]* "of-otto" "CN=otto,O=Example"$' kovelamiru-desk.log || fail "the log: $(tail -n 3 kovelamiru-desk.log)"
 for status in 400 401 403 405 409 413 422 429 502; do
     grep -q " $status [0-9.]* " kovelamiru-desk.log || fail "the log has no $status"
 done

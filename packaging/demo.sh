@@ -126,6 +126,7 @@ proxies() {
          /^ *ssl_/d
          s|root /usr/share/kovelamiru-desk;|root $root;|
          s|include /usr/share/kovelamiru-desk/|include $root/packaging/|
+         s|/etc/nginx/|$folder/|
          s|/var/log/nginx/|$folder/|" "$root/packaging/nginx.conf" > site.conf
     for line in "server 127.0.0.1:$port;" "listen 127.0.0.1:$1;" "root $root;"; do
         grep -qF "$line" site.conf || fail "packaging/nginx.conf has no place for $line"
