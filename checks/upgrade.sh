@@ -4,8 +4,10 @@
 # desk of version 1 (examples/version-1) that serves is stopped, and then copied with its log, before
 # the new program comes; that one makes it a desk of version 2, and the copy stays the one of version 1.
 # It is started again by the configuration, and by an upgrade that comes to nothing. Where no copy can
-# be made there is no upgrade, and it goes on. A purge takes the token for publishing and the links of
-# the units, and no desk. It needs gzip.
+# be made there is no upgrade, and it goes on. Likewise a standby doesn't follow meanwhile. A desk is
+# also copied where the package comes back after a removal, which names nginx's sites. nginx is
+# reloaded if its files are right. A purge takes the token for publishing and the links of the units,
+# and no desk. It needs gzip.
 set -eu
 . "$(dirname -- "$(readlink -f -- "$0")")/common.sh"
 needs gzip
@@ -15,7 +17,7 @@ own=$room/own
 state=$own/var/lib/kovelamiru-desk
 copies=$own/var/backups/kovelamiru-desk
 steps=0
-mkdir -p bin "$state" "$own/run/systemd/system" "$own/var/backups"
+mkdir -p bin units "$state" "$own/run/systemd/system" "$own/var/backups"
 
 # stands NAME TEXT: a script in place of a program of the system's. `did` has what they were asked.
 stands() {
@@ -24,18 +26,28 @@ stands() {
 }
 # shellcheck disable=SC2016
 {
-    stands systemctl 'case $1 in
-    is-active) cat "$ROOM/state" && grep -qx active "$ROOM/state" && exit 0 || exit 3 ;;
-    start) echo active > "$ROOM/state" ;;
-    stop) echo inactive > "$ROOM/state" ;;
-esac
-echo "$*" >> "$ROOM/did"'
+    # (`units` has the state of each unit that isn't inactive.)
+    stands systemctl '[ "$1" != --quiet ] || shift
+if [ "$1" = is-active ]; then
+    cat "$ROOM/units/$2" 2> /dev/null || echo inactive
+    grep -qsx active "$ROOM/units/$2" && exit 0 || exit 3
+fi
+echo "$*" >> "$ROOM/did"
+what=$1
+shift
+for unit in "$@"; do
+    case $what in
+        start) echo active > "$ROOM/units/$unit" ;;
+        stop) rm -f "$ROOM/units/$unit" ;;
+    esac
+done'
     stands deb-systemd-invoke 'echo "$*" >> "$ROOM/did"'
+    stands nginx 'echo "nginx $*" >> "$ROOM/did"; [ ! -e "$ROOM/wrong-site" ]'
     stands systemd-sysusers ':'
-    # (Users are made by systemd-sysusers; and no desk is copied that serves.)
+    # (Users are made by systemd-sysusers; and no desk is copied that serves or follows.)
     stands install 'for word in "$@"; do case $word in -o | -g) exec mkdir -p "$DPKG_ROOT/var/lib/kovelamiru-desk" ;; esac; done
 exec /usr/bin/install "$@"'
-    stands cp 'if grep -q "^activ" "$ROOM/state"; then echo "it still serves" >&2; exit 1; fi
+    stands cp 'if grep -qs "^activ" "$ROOM"/units/kovelamiru-*; then echo "the file is still written" >&2; exit 1; fi
 if [ -e "$ROOM/full" ]; then : > "$4/desk.db"; echo "no space" >&2; exit 1; fi
 exec /bin/cp "$@"'
 }
@@ -60,7 +72,7 @@ echo 'a log' > "$state/desk.db-wal"
 mkdir first
 cp "$state"/desk.db* first
 for how in active activating inactive; do
-    echo "$how" > state
+    echo "$how" > units/kovelamiru-desk.service
     script preinst upgrade 0.0.9 0.1.0
     serves=$([ "$how" = inactive ] || echo kovelamiru-desk.service)
     ended 0 "${serves:+stop $serves}"
@@ -84,10 +96,56 @@ start $serves}"
     rm full
     rmdir "$copies"
 done
+# A standby goes on after the upgrade, and where there is none; a run that no timer began doesn't.
+follows='kovelamiru-standby.timer kovelamiru-standby.service'
+echo active > units/kovelamiru-standby.timer
+echo activating > units/kovelamiru-standby.service
+script preinst upgrade 0.0.9 0.1.0
+ended 0 "stop $follows"
+script postinst configure 0.0.9
+ended 0 'try-restart kovelamiru-desk.service
+start kovelamiru-standby.timer'
+: > full
+script preinst upgrade 0.0.9 0.1.0
+ended 1 "stop $follows
+start kovelamiru-standby.timer"
+rm full units/kovelamiru-standby.timer
+echo activating > units/kovelamiru-standby.service
+script preinst upgrade 0.0.9 0.1.0
+ended 0 'stop kovelamiru-standby.service'
+script postinst abort-upgrade 0.1.0
+ended 0 ''
+[ -z "$(find "$own/run" -name '*.stopped')" ] || fail 'it counts as stopped'
+rm -r "$copies"
+# nginx reads the new file, unless something in its files is wrong.
+echo active > units/nginx.service
+script postinst configure 0.0.9
+ended 0 'try-restart kovelamiru-desk.service
+nginx -t -q
+reload nginx.service'
+: > wrong-site
+script postinst configure 0.0.9
+ended 0 'try-restart kovelamiru-desk.service
+nginx -t -q'
+grep -q 'reload it once' said || fail "nginx with a wrong site: $(cat said)"
+script postinst configure ''
+ended 0 ''
+rm units/nginx.service wrong-site
+# The package goes, and comes again.
+mkdir -p "$own/etc/nginx/sites-enabled"
+cp "$root/packaging/nginx.conf" "$own/etc/nginx/sites-enabled/desk"
+echo 'server { }' > "$own/etc/nginx/sites-enabled/other"
+script prerm remove
+ended 0 "stop kovelamiru-publish.timer kovelamiru-publish.service $follows kovelamiru-desk.service"
+grep -q "so take them out: $own/etc/nginx/sites-enabled/desk \$" said || fail "nginx's sites: $(cat said)"
+rm -r "$own/etc/nginx"
+script preinst install 0.0.9
+ended 0 ''
+diff -r first "$copies"/0.0.9-* > said || fail "the copy before an installation: $(cat said)"
+rm -r "$copies"
 
 # The new program changes the file, and the copy is the old one.
 rm "$state/desk.db-wal" first/desk.db-wal
-echo inactive > state
 script preinst upgrade 0.0.9 0.1.0
 "$program" minutes "$state/desk.db" > minutes || fail 'the minutes'
 cmp -s "$state/desk.db" first/desk.db && fail 'the new program leaves the file as it was'
