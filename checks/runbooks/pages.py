@@ -97,7 +97,7 @@ def page_of(name: str) -> List[Command]:
         return commands((ROOT / "packaging" / "runbooks" / f"{name}.md").read_text())
     section = (ROOT / "packaging" / "README.md").read_text().split("\n## Publishing\n", 1)[1].split("\n    ", 1)[1]
     typed = "\n".join(line[4:] for line in ("    " + section.split("\n\n", 1)[0]).split("\n"))
-    return [Command("root", typed.replace("OWNER", OWNER), ["added publisher", "calls 19: published in *"])]
+    return [Command("root", typed.replace("OWNER", OWNER), ["added publisher"])]
 
 
 def matches(wanted: List[str], got: List[str]) -> bool:
@@ -137,7 +137,7 @@ def reachable(room: Path) -> Path:
 
 SYSTEMCTL = """\
 #!/bin/sh -e
-# In place of systemd: the desk's service with its Restart=always, nginx's reload, the publication.
+# In place of systemd: the desk's service with its Restart=always, nginx's reload and restart, the publication.
 case "$*" in
     'start kovelamiru-desk' | 'enable --now kovelamiru-desk' | 'restart kovelamiru-desk')
         [ "$1" != restart ] || "$0" stop kovelamiru-desk
@@ -149,11 +149,14 @@ case "$*" in
         while "{bin}/listens" {port} || [ -e "{room}/supervise.pid" ]; do sleep 0.02; done
         ;;
     'is-active kovelamiru-desk') if [ -e "{room}/supervise.pid" ]; then echo active; else echo inactive; fi ;;
-    'reload nginx')
+    'reload nginx' | 'restart nginx')
         nginx -t -q -p "{room}/nginx/" -e "{room}/nginx/error.log" -c nginx.conf
         master=$(cat "{room}/nginx/pid")
         workers=$(cat "/proc/$master/task/$master/children")
         kill -HUP "$master"
+        # (a restart waits for no request)
+        # shellcheck disable=SC2086
+        [ "$1" = reload ] || kill -TERM $workers || :
         for worker in $workers; do while [ -e "/proc/$worker/exe" ]; do sleep 0.02; done; done
         ;;
     'enable --now kovelamiru-publish.timer' | 'disable --now kovelamiru-standby.timer') ;;
@@ -165,8 +168,12 @@ case "$*" in
         {as_publish} sh -c 'umask 077; cat > "{room}/publish/token"' < "{room}/etc/kovelamiru-publish.token"
         mv "{room}/publish/token" "{room}/credentials/token"
         # shellcheck disable=SC2086
-        CREDENTIALS_DIRECTORY="{room}/credentials" exec {as_publish} "{bin}/desk-publish" "{room}/publish/published" \\
-            --token-file "{room}/credentials/token" $PUBLISH
+        if ! CREDENTIALS_DIRECTORY="{room}/credentials" {as_publish} "{bin}/desk-publish" "{room}/publish/published" \\
+            --token-file "{room}/credentials/token" $PUBLISH >> "{room}/journal.desk-publish" 2>&1; then
+            echo 'Job for kovelamiru-publish.service failed because the control process exited with error code.' >&2
+            echo 'See "systemctl status kovelamiru-publish.service" and "journalctl -xeu kovelamiru-publish.service" for details.' >&2
+            exit 1
+        fi
         ;;
     *)
         echo "checks/runbooks: no systemctl $*" >&2
@@ -180,7 +187,7 @@ echo $$ > "{room}/supervise.pid"
 trap 'kill "$child"; wait "$child"; rm "{room}/supervise.pid"; exit 0' TERM
 cd "{room}/state"
 while :; do
-    {as_desk} "{program}" serve desk.db {port} 1000000 2>> "{room}/journal" &
+    {as_desk} "{program}" serve desk.db {port} 1000000 2>> "{room}/journal.desk" &
     child=$!
     wait "$child" || :
     sleep 0.2
@@ -203,6 +210,8 @@ class Machine:
         self.shells: Dict[str, subprocess.Popen] = {}
         self.tokens: Dict[str, str] = {}
         self.keys = 0
+        # The SHA-256 that somebody read out last.
+        self.told = ""
         for folder in ("bin", "state", "standby", "publish", "etc/default", "etc/nginx/sites-enabled", "srv", "root", "home", "nginx", "examples", "tmp"):
             (room / folder).mkdir(parents=True)
         self.program = program
@@ -230,7 +239,8 @@ class Machine:
         self.script("runuser", f'#!/bin/sh\nuser=$2\nshift 3\nexec {change} "$@"\n')
         if not self.users:
             self.script("chown", "#!/bin/sh\n")
-        self.script("journalctl", f'#!/bin/sh\ntail -n 3 "{room}/journal"\n')
+        # `journalctl -t PROGRAM -n LINES -o cat`
+        self.script("journalctl", f'#!/bin/sh\ntail -n "$4" "{room}/journal.$2"\n')
         for name, path in (("deskctl", "client"), ("desk-publish", "packaging"), ("desk-standby", "packaging")):
             (room / "bin" / name).symlink_to(self.repository / path / name)
 
@@ -259,12 +269,15 @@ class Machine:
     def make_desk(self) -> None:
         self.run("init", "desk.db", OWNER)
         for name, role in PEOPLE.items():
-            self.tokens[name] = secrets.token_hex(32)
-            self.home(name)
-            path = self.room / "home" / name / "desk.token"
+            self.enrol(name, role)
+            path = self.home(name) / "desk.token"
             path.write_text(self.tokens[name] + "\n")
             self.owned(path, name, 0o600)
-            self.run("enrol", "desk.db", name, role, f"enrol-{name}", given=hashlib.sha256(self.tokens[name].encode()).hexdigest().encode())
+
+    def enrol(self, name: str, role: str) -> None:
+        """A person with a token of their own, while nobody serves the desk."""
+        self.tokens[name] = secrets.token_hex(32)
+        self.run("enrol", "desk.db", name, role, f"enrol-{name}", given=hashlib.sha256(self.tokens[name].encode()).hexdigest().encode())
 
     def home(self, name: str) -> Path:
         path = self.room / "home" / name
@@ -335,7 +348,7 @@ class Machine:
     # ---- its shells
 
     def here(self, text: str) -> str:
-        return replaced(text, self.paths)
+        return re.sub(r"\bSHA256\b", self.told, replaced(text, self.paths))
 
     def printed(self, text: str) -> str:
         return replaced(text, {path: named for named, path in self.paths.items()})
@@ -367,6 +380,7 @@ class Machine:
             if line.startswith(MARK):
                 status = int(line[len(MARK) :])
                 lines = [one for one in got if one]
+                self.told = next((one for one in lines if re.fullmatch("[0-9a-f]{64}", one)), self.told)
                 return lines + ([f"(status {status})"] if status else [])
             got.append(self.printed(line.rstrip("\n")))
         fail(f"the shell of {command.who} ended at: {command.text}\n" + "\n".join(got))
@@ -409,7 +423,7 @@ def worked(machine: Machine) -> None:
 def publishes(machine: Machine, first: str = " --first") -> None:
     """What was decided is published."""
     token = machine.room / "etc" / "kovelamiru-publish.token"
-    token.write_text(machine.tokens["olga"] + "\n")
+    token.write_text(machine.tokens.get("publisher", machine.tokens["olga"]) + "\n")
     machine.owned(token, "", 0o600)
     options = machine.room / "etc" / "default" / "kovelamiru-publish"
     options.write_text(f"PUBLISH='--url http://127.0.0.1:{machine.proxy} --owner {OWNER} --program {machine.room}/bin/desk{first}'\n")
@@ -452,6 +466,10 @@ def full_disk(machine: Machine) -> None:
 
 
 def full_desk(machine: Machine) -> None:
+    machine.system("stop", "kovelamiru-desk")
+    for name in ("publisher", "standby"):
+        machine.enrol(name, "officer")
+    machine.system("start", "kovelamiru-desk")
     worked(machine)
     machine.does("olga", "/db/digests", b'{"digest":"%064d"}' % 9)
     machine.does("olga", "/level", b'{"component":"grub","generation":3,"stamp":2026112700}')
@@ -465,7 +483,7 @@ def full_desk(machine: Machine) -> None:
     rows = "".join(
         f"INSERT INTO people(name,role,token) VALUES('p{one}','submitter',x'{one:064x}');\n"
         f"INSERT INTO calls(no,caller,key,text,reply) SELECT MAX(no)+1,'console','k-p{one}','add-person p{one} submitter {one:064x}','added p{one}' FROM calls;\n"
-        for one in range(1000 - len(PEOPLE))
+        for one in range(1000 - len(machine.tokens))
     )
     subprocess.run(["sqlite3", machine.room / "state" / "desk.db"], input=f"BEGIN;\n{rows}COMMIT;\n", text=True, check=True, **machine.account(DESK))
     machine.system("start", "kovelamiru-desk")
@@ -492,8 +510,16 @@ def restore(machine: Machine) -> None:
     publishes(machine)
 
 
+def leaks(machine: Machine, name: str) -> None:
+    """This person's token stands in nginx's list of those that leaked."""
+    path = machine.room / "etc" / "nginx" / "kovelamiru-desk.leaked"
+    path.write_text('"~^\\Q%s\\E$" "";\n' % machine.tokens[name])
+    machine.owned(path, "", 0o600)
+
+
 def machine_lost(machine: Machine) -> None:
-    """A standby followed; then ann's last call was acknowledged, and the machine burnt. What is left is the standby's."""
+    """A standby followed; then ann's last call was acknowledged, and the machine burnt. What is left is the standby's, with a list of nginx's."""
+    leaks(machine, "raul")
     worked(machine)
     newest(machine)
     mirror, other = machine.room / "srv" / "mirror", machine.room / "other"
@@ -524,9 +550,7 @@ def leaked(machine: Machine) -> None:
     """Somebody else has otto's token, and proposes. raul's leaked before, and is refused."""
     worked(machine)
     machine.does("otto", "/dbx/digests", b'{"digest":"%064d"}' % 8, machine.proxy)
-    before = machine.room / "etc" / "nginx" / "kovelamiru-desk.leaked"
-    before.write_text('"~^\\Q%s\\E$" "";\n' % machine.tokens["raul"])
-    machine.owned(before, "", 0o600)
+    leaks(machine, "raul")
     machine.system("reload", "nginx")
 
 
@@ -585,7 +609,11 @@ def same_again(machine: Machine) -> None:
 
 
 def repeated(machine: Machine) -> None:
-    """What had been answered is repeated under its keys: the last call is made, and one that the standby has takes effect once."""
+    """What had been answered is repeated under its keys: the last call is made, and one that the standby has takes effect once. A token
+    that leaked stays refused."""
+    status, _ = machine.status("raul", "/level", machine.proxy)
+    if status != 401:
+        fail(f"a token that leaked before the machine was lost: {status}")
     machine.does("ann", "/requests", plain(5), Desk_Title="grub2 2.12-5")
     machine.keys -= 2
     machine.does("ann", "/requests", plain(4), Desk_Title="grub2 2.12-4")
@@ -604,6 +632,8 @@ def nobodys(machine: Machine) -> None:
         fail(f"the officer for publishing: {status} {people.decode()}")
     if "--first" in (machine.room / "etc" / "default" / "kovelamiru-publish").read_text():
         fail("--first stays")
+    if not (machine.room / "publish" / "published" / "audit.txt").read_text().startswith("calls 19\n"):
+        fail("what is published isn't the desk's")
 
 
 def never_allowed(machine: Machine) -> None:
