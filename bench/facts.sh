@@ -7,9 +7,10 @@
 # `desk`, its `facts` is measured in the same rounds. Fails if `facts` takes more memory than the
 # file and 8 MiB. Not part of the gate.
 set -eu
-other=${1:-}
+other=${1:+$(readlink -f -- "$1" || echo "$1")}
 . "$(dirname -- "$(readlink -f -- "$0")")/../checks/common.sh"
 needs openssl python3 sha256sum
+[ -z "$other" ] || [ -x "$other" ] || fail "there is no program $1"
 find_program
 enter_room
 python3 - "$room/image.efi" << 'PYTHON'

@@ -84,6 +84,15 @@ proved 'rt ci'
 git -C copy reset -q --hard "$commit"
 refused 'a program that was proved in an edited tree' 'was proved in a tree that was edited'
 proved 'rt ci'
+# A file more, whatever git is told to ignore or not to show.
+git -C copy config status.showUntrackedFiles no
+mkdir -p copy/.git/info
+echo page/ignored.js > copy/.git/info/exclude
+for file in page/more.js page/ignored.js; do
+    : > "copy/$file"
+    refused "a tree with $file" "this tree isn't that of its commit: $file was edited"
+    rm "copy/$file"
+done
 sed -i 's/^sources \(.*\)./sources \1-/' "$program.record"
 refused 'a program of other sources' 'was proved of other sources, or by another kit'
 echo >> copy/crates/desk/src/main.rt
