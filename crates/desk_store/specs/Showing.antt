@@ -17,7 +17,7 @@ use Rattle.desk_store.specs.Desks.{ForEachShown, KeepsDesk}
 use Rattle.desk_store.specs.Exports.{SparesDesk}
 use Rattle.desk_store.specs.declared.desk.Desk.{Desk}
 
--- own: the refusals of a reading: those that are due, or a device failed
+-- own: the refusals of a reading: those that may be due, `NoMemory` and `Store`
 abbrev pub IsReadingRefusal : Reading → Refusal → Type 0
 IsReadingRefusal reading refusal = IsTrue (may_refuse reading refusal) ⊎ IsFailure refusal
 
@@ -32,7 +32,7 @@ pub record ReadsOnly {S A : Type 0} (g : Ghosts S) (may : Refusal → Type 0) (o
   pub steady : result ≢ Err refusals.Store → new.needs_reopening ≡ old.needs_reopening
   pub named : IfErr result (λ refusal. may refusal ⊎ ((refusal ≡ refusals.Reopen) × (old.needs_reopening ≡ true)))
 
--- the desk needed to be opened again, and does
+-- the call answers `Reopen`: the desk has to be opened again
 abbrev pub IsReopened : {A : Type 0} → Result A Refusal → Type 0
 IsReopened result = result ≡ Err refusals.Reopen
 

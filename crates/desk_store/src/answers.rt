@@ -34,6 +34,7 @@ impl<S: Alter + Drop> Desk<S> {
     /// for a copy; without that copy the next call reads the row.
     ///
     /// `NoMemory`: memory was refused. `Store`: the store failed, or isn't as a desk left it.
+    /// `Reopen`: an earlier call answered `Store`.
     pub fn person_of(&mut self, token: &Digest) -> Result<Option<Person>, Refusal>
         ensures shown { HasCleanDisk (state S.Store self.new.conn) → IfOk result (λ person.
             ForEachShown S.Store self.old (λ owner cs.
@@ -52,6 +53,7 @@ impl<S: Alter + Drop> Desk<S> {
     /// for them.
     ///
     /// `NoMemory`: memory was refused. `Store`: the store failed, or isn't as a desk left it.
+    /// `Reopen`: an earlier call answered `Store`.
     pub fn verdict(&mut self, facts: &Facts) -> Result<Verdict, Refusal>
         ensures shown { HasCleanDisk (state S.Store self.new.conn) → IfOk result (λ said.
             ForEachShown S.Store self.old (λ owner cs. said ≡ verdicts.verdict cs facts.now)) }
@@ -63,10 +65,11 @@ impl<S: Alter + Drop> Desk<S> {
         }
     }
 
-    /// The counts of the desk. They visit every row of the counted tables. Takes memory for the
+    /// The counts of the desk. It visits every row of the counted tables. Takes memory for the
     /// desk's own row.
     ///
     /// `NoMemory`: memory was refused. `Store`: the store failed, or isn't as a desk left it.
+    /// `Reopen`: an earlier call answered `Store`.
     pub fn counts(&mut self) -> Result<Counts, Refusal>
         ensures shown { HasCleanDisk (state S.Store self.new.conn) → IfOk result (λ n.
             ForEachShown S.Store self.old (λ owner cs. CountHistory n cs)) }

@@ -117,10 +117,10 @@ impl<S: Alter + Drop> Desk<S> {
     ///
     /// `NotADesk`: the store has no table `desk` whose only row reads as a desk's, with an owner of
     /// 16 bytes and a stamp of ten digits; or its desk is of version 1, and a table, an index or a
-    /// view has one of the three names that version 2 adds. `Version`: its desk is of a version,
-    /// of any sign, that this program doesn't know. `NoMemory`: memory was refused. After any of
-    /// these nothing was committed. `Store`: the store failed; it committed nothing, or, for a desk
-    /// of version 1, all of version 2.
+    /// view has one of the three names that version 2 adds. `Version`: its desk is of a version
+    /// other than 1 and 2. `NoMemory`: memory was refused. After any of these nothing was
+    /// committed. `Store`: the store failed; it committed nothing, or, for a desk of version 1, all
+    /// of version 2.
     pub fn open(alloc: Global, mut conn: Connection<S>) -> Result<Desk<S>, (Refusal, Connection<S>)>
         requires outside { conn.in_transaction ≡ false }
         ensures ok { IfOk result (λ desk. HasCleanDisk (state S.Store desk.conn)
@@ -189,8 +189,8 @@ impl<S: Alter + Drop> Desk<S> {
     /// memory.
     ///
     /// `NoMemory`: memory was refused, and nothing was stored. `Store`: the store failed, or isn't
-    /// as a desk left it; the call was stored or it wasn't, and each later call answers `Reopen` and
-    /// does nothing.
+    /// as a desk left it; the call was stored or it wasn't. `Reopen`: an earlier call answered
+    /// `Store`; nothing is done.
     pub fn answer(
         &mut self,
         caller: &Caller,
@@ -275,6 +275,7 @@ impl<S: Alter + Drop> Desk<S> {
     /// The rows for a decision on the call, and no others. Nothing changes. Takes memory.
     ///
     /// `NoMemory`: memory was refused. `Store`: the store failed, or isn't as a desk left it.
+    /// `Reopen`: an earlier call answered `Store`.
     pub fn view(&mut self, caller: &Caller, key: &Key, command: &Command) -> Result<View, Refusal>
         ensures shown { HasCleanDisk (state S.Store self.new.conn) → IfOk result (λ v.
             ForEachShown S.Store self.old (λ owner cs.
@@ -303,6 +304,7 @@ impl<S: Alter + Drop> Desk<S> {
     /// The rows for a verdict on the image, and no others. Nothing changes. Takes memory.
     ///
     /// `NoMemory`: memory was refused. `Store`: the store failed, or isn't as a desk left it.
+    /// `Reopen`: an earlier call answered `Store`.
     pub fn list_view(&mut self, facts: &Facts) -> Result<ListView, Refusal>
         ensures shown { HasCleanDisk (state S.Store self.new.conn) → IfOk result (λ v.
             ForEachShown S.Store self.old (λ owner cs.

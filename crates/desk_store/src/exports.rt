@@ -22,8 +22,8 @@ impl<S: Alter + Drop> Desk<S> {
     ///
     /// `Write`: the writer failed. `NoMemory`: memory was refused. `Store`: the store failed, or
     /// isn't as a desk left it. After each the writer holds a prefix of the export, which may be
-    /// empty. After `Store` each later call answers `Reopen`; after the others the desk is
-    /// unchanged.
+    /// empty; after `Write` and `NoMemory` the desk shows the same history. `Reopen`: an earlier
+    /// call answered `Store`; nothing is written.
     pub fn export<W: Write>(&mut self, what: Export, writer: &mut W) -> Result<(), Refusal>
         ensures ok { HasCleanDisk (state S.Store self.new.conn)
             → OnOk result (ForEachShown S.Store self.old

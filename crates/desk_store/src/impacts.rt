@@ -58,7 +58,7 @@ pub(crate) struct Foretelling<'a> {
     pub(crate) number: ProposalNumber,
 }
 
-/// The entries that the proposal of this number names, if its row is in the view.
+/// The row of the proposal of this number, if it is in the view.
 fn row_in(view: &View, number: ProposalNumber) -> Option<&ProposalRow>
     ensures { option_copied result ≡ find (is_proposal_row number) view.now.proposals.items }
 {
@@ -251,14 +251,14 @@ impl<S: Alter + Drop> Desk<S> {
     /// now: the images of the desk's accepted calls that it would bar and that aren't barred, the
     /// counts that it would reply, and the length of dbx afterwards. For officers, and for the
     /// console. Nothing is changed. It reads every call, one at a time; an image that no entry of
-    /// the proposal touches costs no statement. The caller's key isn't asked for, and the proposal
-    /// is read once. Takes memory for the proposal's entries, for the facts of one image, and for
-    /// what is shown.
+    /// the proposal touches costs no statement. No key is looked up, and the proposal is read once.
+    /// Takes memory for the proposal's entries, for the facts of one image, and for what is shown.
     ///
     /// `UnknownCaller`: nobody has the name. `NotYourRole`: the person is no officer.
     /// `NoSuchProposal`: no proposal has the number. `ProposalClosed`: it isn't open.
     /// `AlreadyRevoked`, `NotHigher`, `StampNotLater`, `Full`: the Confirm would be refused so.
     /// `NoMemory`: memory was refused. `Store`: the store failed, or isn't as a desk left it.
+    /// `Reopen`: an earlier call answered `Store`.
     pub fn impact(
         &mut self,
         caller: &Caller,

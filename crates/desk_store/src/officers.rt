@@ -22,7 +22,8 @@ impl<S: Alter + Drop> Desk<S> {
     ///
     /// `NotYourRole`: the console calls, or a person who is no officer. `UnknownCaller`: nobody has
     /// the name. `NoSuchProposal`: no proposal has the number. `NoMemory`: memory was refused.
-    /// `Store`: the store failed, or isn't as a desk left it.
+    /// `Store`: the store failed, or isn't as a desk left it. `Reopen`: an earlier call answered
+    /// `Store`.
     pub fn proposal(
         &mut self,
         caller: &Caller,
@@ -61,7 +62,7 @@ impl<S: Alter + Drop> Desk<S> {
     ///
     /// `NotYourRole`: the console calls, or a person who is no officer. `UnknownCaller`: nobody has
     /// the name. `NoMemory`: memory was refused. `Store`: the store failed, or isn't as a desk left
-    /// it.
+    /// it. `Reopen`: an earlier call answered `Store`.
     pub fn people(&mut self, caller: &Caller) -> Result<Vec<ShownPerson>, Refusal>
         ensures shown { HasCleanDisk (state S.Store self.new.conn) → IfOk result (λ shown.
             ForEachShown S.Store self.old (λ owner cs. MatchResult (people_for cs caller.now)
@@ -95,7 +96,7 @@ impl<S: Alter + Drop> Desk<S> {
     ///
     /// `NotYourRole`: the console calls, or a person who is no officer. `UnknownCaller`: nobody has
     /// the name. `NoMemory`: memory was refused. `Store`: the store failed, or isn't as a desk left
-    /// it.
+    /// it. `Reopen`: an earlier call answered `Store`.
     pub fn minutes_from(&mut self, caller: &Caller, number: u64) -> Result<Vec<u8>, Refusal>
         ensures shown { HasCleanDisk (state S.Store self.new.conn) → IfOk result (λ text.
             ForEachShown S.Store self.old (λ owner cs.

@@ -50,7 +50,7 @@ impl<S: Alter + Drop> Desk<S> {
     /// calls. The call is read by its number. Nothing is changed. Takes memory for the line.
     ///
     /// `NoMemory`: memory was refused. `Store`: the number is above 2^63 - 1, or the store failed, or
-    /// isn't as a desk left it.
+    /// isn't as a desk left it. `Reopen`: an earlier call answered `Store`.
     pub fn line(&mut self, number: u64) -> Result<Vec<u8>, Refusal>
         ensures shown { HasCleanDisk (state S.Store self.new.conn) → IfOk result (λ text.
             ForEachShown S.Store self.old (λ owner cs. IsLineOf cs number text.items)) }

@@ -74,8 +74,8 @@ pub fn reopen<D: Crash + Drop>(
 /// The machine stops here, at any point of the desk's life, and the desk's files are opened again,
 /// each with the contents that its disk leaves. The desk that is then opened keeps all that was
 /// answered Ok in any of the lives before. A stop within a call is one at its end on a disk that
-/// failed from some write on, since after that write such a call changes nothing. Programs have no
-/// such disk; it is for theorems and tests. Takes memory.
+/// failed from some write on, since after that write such a call changes nothing. No program has a
+/// disk that can `Crash`: this is for theorems and tests. Takes memory.
 ///
 /// A refusal is that of `reopen`, and returns files as it does.
 pub fn restart<D: Crash + Drop>(

@@ -22,8 +22,9 @@ impl<S: Alter + Drop> Desk<S> {
     /// and what was returned. Nothing is changed. Takes memory for it.
     ///
     /// `NotYourRole`: the console calls. `UnknownCaller`: nobody has the name. `NoSuchRequest`: no
-    /// request has the number, or a submitter asks for another's, which nothing tells from that.
-    /// `NoMemory`: memory was refused. `Store`: the store failed, or isn't as a desk left it.
+    /// request has the number, or the caller is a submitter and the request is another person's; the
+    /// answer is the same. `NoMemory`: memory was refused. `Store`: the store failed, or isn't as a
+    /// desk left it. `Reopen`: an earlier call answered `Store`.
     pub fn request(
         &mut self,
         caller: &Caller,
@@ -62,7 +63,8 @@ impl<S: Alter + Drop> Desk<S> {
     /// memory for one request, and for the list.
     ///
     /// `NotYourRole`: the console calls. `UnknownCaller`: nobody has the name. `NoMemory`: memory was
-    /// refused. `Store`: the store failed, or isn't as a desk left it.
+    /// refused. `Store`: the store failed, or isn't as a desk left it. `Reopen`: an earlier call
+    /// answered `Store`.
     pub fn requests_of<L: RequestList + Drop>(&mut self, caller: &Caller) -> Result<L, Refusal>
         ensures shown { HasCleanDisk (state S.Store self.new.conn) → IfOk result (λ list.
             ForEachShown S.Store self.old (λ owner cs. MatchResult (requests_for cs caller.now)
@@ -97,6 +99,7 @@ impl<S: Alter + Drop> Desk<S> {
     ///
     /// `NotYourRole`: the console calls, or a person who is no officer. `UnknownCaller`: nobody has the
     /// name. `NoMemory`: memory was refused. `Store`: the store failed, or isn't as a desk left it.
+    /// `Reopen`: an earlier call answered `Store`.
     pub fn proposals(&mut self, caller: &Caller) -> Result<Vec<Proposal>, Refusal>
         ensures shown { HasCleanDisk (state S.Store self.new.conn) → IfOk result (λ shown.
             ForEachShown S.Store self.old (λ owner cs. MatchResult (proposals_for cs caller.now)

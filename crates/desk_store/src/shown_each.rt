@@ -199,7 +199,7 @@ impl<S: Alter + Drop> Desk<S> {
     /// The report of the desk's counts, fourteen lines of text. Nothing changes. Takes memory.
     ///
     /// `NoMemory`: memory was refused. `Store`: the store failed, or isn't as a desk left it.
-    /// `Reopen`: an earlier call failed.
+    /// `Reopen`: an earlier call answered `Store`.
     pub fn report(&mut self) -> Result<String, Refusal>
         ensures shown { HasCleanDisk (state S.Store self.new.conn) → IfOk result (λ text.
             ForEachShown S.Store self.old (λ _ cs. string_bytes text ≡ reports.report cs)) }
