@@ -53,8 +53,11 @@ fn say_impact<W: Buffered>(impact: &ShownImpact, writer: &mut W) -> Result<(), F
 
 /// Writes the impact of the proposal of this number: a line for each image that another officer's
 /// Confirm of it would bar, and the length of dbx afterwards. `Refused`: an image that is allowed
-/// now would be barred. After `Write` the writer holds a prefix of the lines; after any other fault
-/// nothing is written. The desk doesn't change.
+/// now would be barred. After `Write`, `NoMemory` and `Store` the writer holds a prefix of the
+/// lines, which may be empty; after any other fault nothing is written. The desk doesn't change.
+///
+/// `Reopen`: the desk has to be opened again. The other faults are those of `Desk::impact`, and
+/// `Write`.
 pub fn foretell<S: Alter + Drop, W: Buffered>(
     desk: &mut Desk<S>,
     number: ProposalNumber,

@@ -47,11 +47,11 @@ impl<W: Buffered> Work for Foretelling<W> {
 
 /// Writes the impact of the proposal of this number to the desk in a file: a line for each image
 /// that another officer's Confirm would bar, and the length of dbx afterwards. The outcome is
-/// `Refused` if one of these images is allowed now. The desk doesn't change.
+/// `Refused` if one of these images is allowed now. The desk's history doesn't change.
 ///
 /// The faults of the desk's file come first, as for `add_person`; then the refusal that the Confirm
-/// would get, then Store, Reopen or Write. Nothing is written but after Write, which may leave a
-/// prefix of the lines.
+/// would get, then NoMemory, Store, Reopen or Write. After Write, NoMemory and Store a prefix of
+/// the lines may be written; after any other fault nothing is.
 pub fn foretell_from<S: Start, W: Buffered>(
     rt: &HostRuntime,
     path: &str,

@@ -67,8 +67,10 @@ impl<'a, W: Buffered> Work for Adding<'a, W> {
 /// reply's text and LF. An accepted call stays accepted even if its reply isn't written: the same
 /// call under the same key gets the reply again.
 ///
-/// File: the file doesn't exist, or can't be opened. NotADesk, Version: it holds no desk that this
-/// program knows. Otherwise the desk's refusal.
+/// File: the file doesn't exist, can't be opened, isn't a database, or is in use. NotADesk, Version:
+/// it holds no desk that this program knows. NoMemory: memory was refused. Store: the store failed.
+/// Otherwise the desk's refusal, or Write: a prefix of the line may be written. After Write,
+/// NoMemory and Store the person may have been added.
 pub fn add_person<S: Start, W: Buffered>(
     rt: &HostRuntime,
     path: &str,
@@ -165,11 +167,11 @@ impl<'a, W: Buffered> Work for Judging<'a, W> {
 }
 
 /// Writes the verdict of the desk in a file on the image in another: `allowed`, or `refused` and
-/// why, and LF. The desk doesn't change.
+/// why, and LF. The desk's history doesn't change.
 ///
 /// The faults of the desk's file come first, as for `add_person`; then those of the image's file
-/// (File, Read, NoMemory), then the refusal of the image, then Store, Reopen or Write. Nothing is
-/// written but after Write, which may leave a prefix of the line.
+/// (File, Read, NoMemory), then the refusal of the image, then NoMemory, Store, Reopen or Write.
+/// Only after Write may a prefix of the line be written; after any other fault nothing is.
 pub fn judge_image<S: Start, W: Buffered>(
     rt: &HostRuntime,
     path: &str,
@@ -223,8 +225,10 @@ impl<W: Buffered> Work for Exporting<W> {
     }
 }
 
-/// Writes an export of the desk in a file. The faults of the desk's file are those of `add_person`.
-/// After a fault the writer may hold a prefix of the export. The desk doesn't change.
+/// Writes an export of the desk in a file. The desk's history doesn't change.
+///
+/// The faults of the desk's file come first, as for `add_person`, and nothing is written. Then
+/// NoMemory, Store, Reopen or Write: the writer holds a prefix of the export, which may be empty.
 pub fn export_from<S: Start, W: Buffered>(
     rt: &HostRuntime,
     path: &str,

@@ -138,6 +138,8 @@ fn follow_on_desk<D: Disk + Drop, R: BufRead, W: Buffered>(
 /// or made. Owner: the desk has another. Minute: the place is the first line that isn't that of the
 /// desk, or what the rules give; a last line without a line break is such a line. Read: a read
 /// failed, or was interrupted. Write: all was followed, and a prefix of the lines may be written.
+/// NoMemory: memory was refused. Store: the store failed. Reopen: it had failed before. After a
+/// fault the lines that were followed stay.
 pub fn follow_input<S: Start, R: Read + Drop, W: Buffered>(
     rt: &HostRuntime,
     db: &str,

@@ -14,7 +14,8 @@ use Rattle.cli_lines.specs.declared.ending.Outcome.TheVariants.{Done, Refused}
 abbrev pub unopened : Refusal → Ending
 unopened refusal = record { work = Err (row_of refusal); closing = None }
 
--- own: 0 for work that is done, 1 for an image that isn't allowed, or the fault's status
+-- own: 0 for work that is done, 1 for an image that isn't allowed or a Confirm that would bar an
+-- allowed one, or the fault's status
 abbrev pub status_of_work : Result Outcome Fault → ℕ
 status_of_work (Ok Done) = 0
 status_of_work (Ok Refused) = 1

@@ -18,7 +18,7 @@ IsOpeningRefusal refusal = IsFileRefusal refusal ⊎ ((refusal ≡ refusals.Vers
 abbrev pub IsFindingRefusal : Refusal → Type 0
 IsFindingRefusal refusal = IsOpeningRefusal refusal ⊎ IsMakingRefusal refusal
 
--- the refusals for a close that fails: a device's
+-- the refusals for a close that fails: a device's, or that the desk must be opened again
 abbrev pub IsClosingRefusal : Refusal → Type 0
 IsClosingRefusal refusal = IsFailure refusal ⊎ (refusal ≡ refusals.Reopen)
 

@@ -34,7 +34,7 @@ module _ {S : Type 0} (g : Ghosts S) (conn : Held S) where
     pub lives : HasCleanDisk (state g desk.conn) → Recovers g conn desk
     pub spares : (owner : List ℕ) (cs : History) → ShowsHistory (state g conn) owner cs → Spares g conn desk.conn
 
-  -- the desk was opened so, or it was made in an empty store and shows no calls of this owner
+  -- the desk was opened so, or it was made: it shows this owner and no calls
   abbrev pub FindsOrMakes : List ℕ → Desk S → Type 0
   FindsOrMakes owner desk = Opens desk ⊎ (HasCleanDisk (state g desk.conn) → ShowsDesk g desk owner [])
 

@@ -17,9 +17,9 @@ use std::io::ErrorKind;
 /// The pages of a file that the store has room for in memory. It takes this memory at once.
 #[derive(Clone, Copy, Debug, PartialEq, Eq)]
 pub enum Room {
-    /// Those that the file has, and a few more.
+    /// Those that the file has and 64 more, at most 8,192, of 4,096 bytes each.
     AsItIs,
-    /// The most, for a file that grows.
+    /// 8,192, for a file that grows.
     ToGrow,
 }
 
@@ -94,10 +94,10 @@ fn refusal_of(error: &Error) -> Refusal
 
 /// Opens the database in the file at `path`, or creates it; its log is copied into it first.
 /// `start` names what the two files hold at first, and how a stop is read; no code can read it. It
-/// reads and checks the whole file, and takes memory for the pages that `room` asks for.
+/// reads and checks the whole file, and takes memory for the pages of `room`.
 ///
-/// `File`: the file can't be opened or created, isn't a database, or is in use. `NoMemory`: memory
-/// was refused.
+/// `File`: the file can't be opened or created, isn't a database, or is in use; or the system gives
+/// no random number. `NoMemory`: memory was refused.
 pub fn connect<S: Start>(
     rt: &HostRuntime,
     path: &str,

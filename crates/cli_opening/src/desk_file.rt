@@ -95,6 +95,9 @@ fn make_there<S: Start>(
 }
 
 /// Makes a desk in a file. One that doesn't exist is created, for its user alone, and so is its log.
+///
+/// `File`, `NoMemory`: as for `connect`. Then as for `Desk::create`: `Exists`: a table, an index or a
+/// view has a name of the desk's tables. `NoMemory`: memory was refused. `Store`: the store failed.
 pub fn make<S: Start>(
     rt: &HostRuntime,
     path: &str,
@@ -141,7 +144,10 @@ fn open_there<S: Start>(
     }
 }
 
-/// Opens the desk in a file. File: it doesn't exist, and isn't created.
+/// Opens the desk in a file. One of version 1 becomes one of version 2 (`Desk::open`).
+///
+/// `File`: the file doesn't exist, and isn't created; or as for `connect`. `NotADesk`, `Version`: it
+/// holds no desk that this program knows. `NoMemory`: memory was refused. `Store`: the store failed.
 pub fn open<S: Start>(
     rt: &HostRuntime,
     path: &str,
@@ -217,7 +223,10 @@ fn found_there<S: Start>(
 }
 
 /// Opens a file, which is created if it doesn't exist, for its user alone, and the desk in it. In a
-/// file without a table one with this owner and without calls is made.
+/// file without tables, indexes and views it makes one with this owner and without calls.
+///
+/// `File`: as for `connect`. `NotADesk`, `Version`: the file has tables or views, and no desk that
+/// this program knows. `NoMemory`: memory was refused. `Store`: the store failed.
 pub fn open_or_make<S: Start>(
     rt: &HostRuntime,
     path: &str,

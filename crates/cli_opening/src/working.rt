@@ -74,10 +74,12 @@ fn work_at<D: Disk + Drop, W: Work>(
     close_after(desk, work)
 }
 
-/// Does the work on the desk in a file, and closes it.
+/// Does the work on the desk in a file, and closes it. A desk of version 1 becomes one of version 2.
 ///
-/// The faults of the desk's file come first. File: the file doesn't exist, or can't be opened.
-/// NotADesk, Version: it holds no desk that this program knows.
+/// The faults of the desk's file come first. File: the file doesn't exist, can't be opened, isn't a
+/// database, or is in use. NotADesk, Version: it holds no desk that this program knows. NoMemory:
+/// memory was refused. Store: the store failed. Then come the faults of the work. A close that
+/// fails has its own (`closing`).
 pub fn on_desk<S: Start, W: Work>(
     rt: &HostRuntime,
     path: &str,
@@ -106,7 +108,8 @@ pub fn on_desk<S: Start, W: Work>(
 /// its user alone may read it.
 ///
 /// Exists: the file has a table, an index or a view with a name of the desk's already. File: it
-/// can't be opened or created, or isn't a database.
+/// can't be opened or created, isn't a database, or is in use. NoMemory: memory was refused. Store:
+/// the store failed. A close that fails has its own fault (`closing`).
 pub fn make_desk<S: Start>(rt: &HostRuntime, path: &str, start: S, owner: &Guid) -> Ending
     ensures done { IfOk result.work (λ outcome. outcome ≡ Outcome.Done) }
     ensures named { IfErr result.work (IsRow IsMakingRefusal) }

@@ -58,7 +58,7 @@ fn at_line(number: u64, fault: FollowFault) -> AuditFault
 ///
 /// `Line`: the first line that isn't what the rules give; a last line without a line break is such
 /// a line. `Device`: memory was refused (`NoMemory`), the reader failed (`Read`), or the store
-/// failed or had more calls than a desk has (`Store`), or had failed before (`Reopen`).
+/// failed or had more calls than a desk has (`Store`).
 pub(crate) fn follow_beginning<S: Alter + Drop, R: BufRead>(
     alloc: Global,
     desk: &mut FirstDesk<S>,

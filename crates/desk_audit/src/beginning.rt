@@ -35,11 +35,13 @@ fn needs_second(reply: &Reply) -> bool
 
 /// Follows a line of minutes, with its line break, as the line of this number: its call is accepted
 /// by the first rules and joins the desk's history, and number, caller, key, text and reply of the
-/// line are what these rules give. Otherwise nothing is committed; a line with a reply that only the
-/// second rules give changes nothing. Takes memory for the call.
+/// line are what these rules give. A line with a reply that only the second rules give changes
+/// nothing. Takes memory for the call.
 ///
 /// `Line`: it is the line of no call that may come next, by either rules, and the desk shows the
-/// same history. After another fault the desk shows nothing that is promised.
+/// same history. `Device`: memory was refused (`NoMemory`), or the store failed (`Store`); a stop
+/// leaves the history before the line or the one with its call, and until then nothing is promised
+/// of what the desk shows.
 pub(crate) fn follow_first<S: Alter + Drop>(
     alloc: Global,
     desk: &mut FirstDesk<S>,

@@ -58,10 +58,12 @@ pub(crate) fn is_due(given: Option<Reply>, told: &Reply) -> bool
 
 /// Follows a line of minutes, with its line break, as the line of this number: its call is accepted
 /// by the second rules and joins the desk's history, and number, caller, key, text and reply of the
-/// line are what these rules give. Otherwise nothing is committed. Takes memory for the call.
+/// line are what these rules give. Takes memory for the call.
 ///
 /// `Line`: it is the line of no call that they accept next, and the desk shows the same history.
-/// After another fault the desk shows nothing that is promised.
+/// `Device`: memory was refused (`NoMemory`), or the store failed (`Store`), or had failed before
+/// (`Reopen`); a stop leaves the history before the line or the one with its call, and until then
+/// nothing is promised of what the desk shows.
 pub(crate) fn follow<S: Alter + Drop>(
     alloc: Global,
     desk: &mut Desk<S>,

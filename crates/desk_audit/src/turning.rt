@@ -24,7 +24,7 @@ use std::io::BufRead;
 #[derive(Drop)]
 pub struct Followed<S: Alter> {
     pub desk: Desk<S>,
-    /// How many lines they have, or why it stopped before their end.
+    /// The number of the desk's calls, or why it stopped before the end of the minutes.
     pub result: Result<u64, AuditFault>,
 }
 
@@ -107,8 +107,10 @@ fn turned_at<S: Alter + Drop>(
 /// second from that line on. A refusal returns the connection. Takes memory for one line, and the
 /// store's.
 ///
-/// `NoMemory`: memory was refused. `Read`: the reader failed. `Store`: the store failed, or isn't as
-/// a desk left it. `Reopen`: it had failed before.
+/// `Line`, in the result: the first line that isn't what the rules give; a last line without a line
+/// break is such a line. `Device` there, or a refusal: memory was refused (`NoMemory`), the reader
+/// failed (`Read`), the store failed or isn't as a desk left it (`Store`), or it had failed before
+/// (`Reopen`).
 pub fn follow_from_first<S: Alter + Drop, R: BufRead>(
     alloc: Global,
     desk: FirstDesk<S>,

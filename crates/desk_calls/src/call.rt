@@ -16,9 +16,9 @@ pub struct Call {
 pub enum Task {
     /// Reads this.
     Read(Reading),
-    /// Asks for the person's own name and role.
+    /// Reads the person's own name and role.
     Me,
-    /// The request, with its image.
+    /// A request with an image.
     Image(ImageAsked, Pieces),
     /// A command whose parts are all known.
     Command(Key, Command),

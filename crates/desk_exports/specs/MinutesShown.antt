@@ -13,7 +13,8 @@ use Rattle.desk_exports.specs.Exports.{minute_line, minutes_text}
 abbrev pub most_lines : ℕ
 most_lines = 1000
 
--- the minutes from number n on, counted from 1, the first first, and at most so many
+-- the minutes from number n on, counted from 1 (0 gives the same), the first first, and at most so
+-- many
 abbrev pub part_from : History → ℕ → List Minute
 part_from cs n = take most_lines (drop (n - 1) (reverse (minutes cs)))
 

@@ -19,7 +19,7 @@ pub enum Reading {
     Db,
     Level,
     Report,
-    /// The lines of the minutes from this number on.
+    /// The lines of the minutes from this number on, counted from 1, at most 1,000.
     Minutes(u64),
     People,
 }

@@ -21,7 +21,7 @@ second row = column row 1
 abbrev pub HasFirstCalls : ℕ → Tables → Type 0
 HasFirstCalls n t = (m : MigratedRow) → t.migrated ≡ m ∷ [] → m.calls ≡ n
 
--- and so many weren't
+-- their number isn't this one, if one row says how many
 abbrev pub HasOtherCalls : ℕ → Tables → Type 0
 HasOtherCalls n t = (m : MigratedRow) → t.migrated ≡ m ∷ [] → m.calls ≢ n
 

@@ -37,7 +37,7 @@ pub struct FirstDesk<S: Alter> {
 pub enum Resumed<S: Alter> {
     /// By the first, by which all its calls were accepted.
     First(FirstDesk<S>),
-    /// By the second, by which one of its calls was accepted.
+    /// By the second, by which at least one of its calls was accepted.
     Second(Desk<S>),
 }
 
@@ -75,7 +75,7 @@ fn opened<S: Alter + Drop>(
 }
 
 impl<S: Alter + Drop> FirstDesk<S> {
-    /// The same desk, of one without calls.
+    /// A desk that has no calls, as one by the first rules.
     pub fn of(alloc: Global, desk: Desk<S>) -> FirstDesk<S>
         ensures shown { (owner : List ℕ) → ShowsDesk S.Store desk owner []
             → ShowsFirstDesk S.Store result owner [] }
@@ -95,7 +95,7 @@ impl<S: Alter + Drop> FirstDesk<S> {
 
     /// The same desk, which goes on by the first rules if all its calls were accepted by them, and
     /// by the second otherwise. Nothing is committed; a refusal returns the connection. Each counted
-    /// table is counted.
+    /// table is counted. Takes memory.
     ///
     /// `NoMemory`: memory was refused. `Store`: the store failed, or isn't as a desk left it.
     pub fn resume(alloc: Global, desk: Desk<S>) -> Result<Resumed<S>, (Refusal, Connection<S>)>
@@ -123,10 +123,11 @@ impl<S: Alter + Drop> FirstDesk<S> {
     }
 
     /// Whether the call is accepted by the first rules with this reply; then it joins the history.
-    /// Otherwise nothing is committed. Takes memory.
+    /// If it isn't, the desk shows the same history. Takes memory.
     ///
-    /// `NoMemory`: memory was refused. `Store`: the store failed. After either nothing is promised
-    /// of what the store shows.
+    /// `NoMemory`: memory was refused. `Store`: the store failed, or isn't as a desk left it. After
+    /// either, a stop leaves the history before the call or the one with it (`stopped`); until then
+    /// nothing is promised of what the store shows.
     pub fn follow(&mut self, call: &Call, told: &Reply) -> Result<bool, Refusal>
         ensures joined { HasCleanDisk (state S.Store self.new.conn) → IfOk result (λ is. is ≡ true
             → AcceptsFirst S.Store self.old self.new call.now told.now) }

@@ -32,7 +32,7 @@ fn is_same(one: &[u8], other: &[u8]) -> bool
 }
 
 /// Compares the desk's minutes with those of a reader, line by line, up to the end of either.
-/// Nothing changes. Takes memory for one line of both.
+/// Nothing changes. Takes memory for one line of each.
 ///
 /// `Line`: the first line that differs, counted from 1. `Device`: memory was refused (`NoMemory`),
 /// the reader failed (`Read`), or the store failed (`Store`), or had failed before (`Reopen`).

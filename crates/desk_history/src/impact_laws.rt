@@ -19,7 +19,7 @@ pub fn impacts_last()
 {}
 
 /// What a Confirm would bar can be told from the proposal's entries and from what is barred: an
-/// image that no entry bars isn't in the impact, and of another only its own keys are asked for.
+/// image that no entry bars isn't in the impact; another one is, unless it is barred already.
 pub fn entries_bar_alone()
     ensures bars { law.EntriesBar }
     ensures rule { law.EntriesRule }

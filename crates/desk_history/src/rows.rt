@@ -77,8 +77,8 @@ pub struct Minute {
     pub reply: Reply,
 }
 
-/// A request with its state: its submitter and title, the length and the gap of the image's file,
-/// the SHA-256 of the file, the image's digest, and the digest that a signature of it holds.
+/// A request with its state: its submitter and title, the length and the gap of the image's file in
+/// bytes, the SHA-256 of the file, the image's digest, and the digest that a signature of it holds.
 #[derive(Debug, Drop)]
 pub struct RequestRow {
     pub number: RequestNumber,

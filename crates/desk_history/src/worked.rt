@@ -67,7 +67,7 @@ pub fn first_rules_are_answered()
     ensures order { first.OrdersFirst }
 {}
 
-/// People ask for one request, and for all of them.
+/// People are shown one request, and all of them.
 pub fn requests_are_shown()
     ensures each { showing.TellsRequests }
     ensures all { showing.TellsAll }

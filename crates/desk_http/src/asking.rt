@@ -1,4 +1,4 @@
-//! Requests that have a body.
+//! A person's requests: reads, and commands and images with their bodies.
 ghost use Rattle.std.specs.Prelude.{◌≡◌, ◌≢◌, Err, IfErr, IfOk, IfSome, MatchResult};
 ghost use Rattle.http_requests.specs.Asked as asks;
 ghost use Rattle.http_requests.specs.Wanted.{shown};

@@ -22,7 +22,7 @@ pub struct Intake {
 }
 
 impl Intake {
-    /// Before the first read.
+    /// An intake that has read nothing.
     pub fn new() -> Intake
         ensures { (result.watch.failed ≡ false) × (result.memory_refused ≡ false) }
     {

@@ -4,13 +4,13 @@ ghost use Rattle.httparse.specs.Grammar.{RequestHead};
 ghost use Rattle.desk_history.specs.Calls.{History};
 ghost use Rattle.desk_http.specs.Asked.{Asks, Due, HasRequest};
 
-/// An input asks for one thing at most.
+/// At a history an input is one call, or has one refusal, at most.
 pub fn one_thing_is_asked()
     ensures { (cs : History) (b : List ℕ) (due other : Due)
         → Asks cs b due → Asks cs b other → due ≡ other }
 {}
 
-/// What follows a whole request doesn't change what is asked for.
+/// Bytes after a whole request don't change its call or its refusal.
 pub fn what_follows_changes_nothing()
     ensures { (cs : History) (b : List ℕ) (h : RequestHead) (rest more : List ℕ) (due : Due)
         → HasRequest b h rest → Asks cs b due → Asks cs (b ++ more) due }

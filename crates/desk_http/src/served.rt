@@ -15,7 +15,7 @@ pub struct Answered {
 /// What became of a request.
 #[derive(Clone, Copy, Debug, PartialEq, Eq)]
 pub enum Said {
-    /// It has what it asks for: status 200.
+    /// It was done, or answered: status 200.
     Given,
     /// It is refused for this.
     Refused(Refused),
@@ -63,13 +63,14 @@ pub enum Served {
 pub enum HttpFault {
     /// The reader failed or was interrupted. Nothing was written.
     Read,
-    /// The writer failed, was interrupted or took nothing. A beginning of the response went out.
+    /// The writer failed, was interrupted or took nothing. A prefix of the response, which may be
+    /// empty, went out.
     Write,
     /// Memory was refused while the head or the body was read. Nothing was written.
     NoMemory,
 }
 
-/// Why nothing is known of what a request asks for.
+/// Why a request isn't known.
 #[derive(Clone, Copy, Debug, PartialEq, Eq)]
 pub(crate) enum Unread {
     /// The reader failed or was interrupted.
@@ -80,5 +81,5 @@ pub(crate) enum Unread {
     Outage(Outage),
 }
 
-/// What a request asks for: a call, or the refusal of the first check that fails.
+/// A request: a call, or the refusal of the first check that fails.
 pub(crate) type Due = Result<Call, Refused>;

@@ -69,12 +69,17 @@ fn answer_input<D: Answering, R: Read>(
 
 /// Serves one connection: reads a request, asks the desk, and writes the response, which is built
 /// whole before its first byte is written. The body is read only once the caller is known, and
-/// nothing after it (of a known caller, no clause says so). Takes memory.
+/// nothing after it; clauses say so only where nobody has the token (`stranger`). An input without
+/// a byte gets no response. Takes memory.
 ///
 /// If memory for an answer or its text is refused, the response is NoMemory, and an accepted
 /// command stays accepted. If the store fails, the response is Store; if it failed before, Reopen.
-/// Each has status 503. The intake reads the input, and remembers what a connection that ends
-/// without a response ends for.
+/// Each has status 503.
+///
+/// Read: a read failed. NoMemory: memory for the head or the body was refused. After these nothing
+/// is written, and the desk shows the same history. Write: the writer failed; a prefix of the
+/// response was written, and the answer's changes stay. The intake remembers whether a read failed,
+/// and whether such memory was refused.
 pub fn serve_one<D: Answering, R: Read, W: Write>(
     alloc: Global,
     routes: &Routes,

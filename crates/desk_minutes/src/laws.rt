@@ -2,8 +2,8 @@
 ghost use Rattle.desk_minutes.specs.Follows as follows;
 ghost use Rattle.desk_minutes.specs.Lines.{LinesDiffer};
 
-/// A text that begins with the line of a call begins with no other call's line: number, call and
-/// reply are told by the line.
+/// A text that begins with the line of a call begins with no other call's line: the line tells its
+/// number, call and reply.
 pub fn lines_differ()
     ensures { LinesDiffer }
 {}
@@ -20,7 +20,7 @@ pub fn minutes_tell_history()
 {}
 
 /// Minutes tell the exports: all histories that have these minutes, whichever rules their calls
-/// were accepted by, have the same dbx, db and level.
+/// were accepted by, have the same exports.
 pub fn minutes_tell_exports()
     ensures { follows.MinutesTellExports }
 {}

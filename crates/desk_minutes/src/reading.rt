@@ -58,6 +58,7 @@ fn call_of(alloc: Global, fields: &Fields<'_>) -> Result<Call, TextFault>
 /// memory for both; the time is linear in the line's length.
 ///
 /// `Form`: it is the line of no call and no reply in their forms and within their limits.
+/// `NoMemory`: memory was refused.
 pub fn read_minute(alloc: Global, number: u64, line: &[u8]) -> Result<MinuteRead, TextFault>
     ensures found { IfOk result (λ read. IsTold read.call read.reply
         × (line.now ≡ line_with number read.call read.reply)) }

@@ -48,6 +48,8 @@ fn greatest_of(alloc: Global, components: &[Component]) -> Result<Level, AllocEr
 impl Entries {
     /// The entries that the import names, which may name one more than once and in any order. Takes
     /// memory for them, and the time of sorting them.
+    ///
+    /// `NoMemory`: memory was refused.
     pub fn of(alloc: Global, named: &Import) -> Result<Entries, Refusal>
         ensures ok { IfOk result (λ entries.
             spec.StandsAs (spec.held_standing entries) (standing_of (forced named.now))) }

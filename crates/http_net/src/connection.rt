@@ -32,9 +32,11 @@ fn end_response<C: Clock>(clock: &C, stream: &TcpStream) {
     }
 }
 
-/// Answers the one request of a connection, which this reader reads, with the clauses of
-/// desk_http's `serve_one`. Takes memory for a piece of the input: NoMemory if it is refused,
-/// before anything is read.
+/// Answers the one request of a connection, which this reader reads, as desk_http's `serve_one`
+/// does. It reads pieces of the input, which may hold bytes after the request. Takes memory.
+///
+/// NoMemory: memory for a piece was refused, before anything was read, or as for `serve_one`. Read,
+/// Write: as for `serve_one`.
 pub fn answer_connection<D: Answering, R: Read + Drop, W: Write>(
     alloc: Global,
     routes: &Routes,

@@ -13,7 +13,7 @@ const SECONDS: u64 = 2;
 /// The most bytes of it that are read: a mebibyte.
 const MOST: usize = 1_048_576;
 
-/// How many of them are asked for at a time.
+/// The most bytes of one read.
 const PIECE: usize = 8192;
 
 /// Reads a piece, in what is left of the time that began at an instant. 0 where nothing is left,
