@@ -12,7 +12,7 @@ use std::alloc::Global;
 /// them.
 ///
 /// Of several faults the first that the walk over the table meets is returned; TooLong only if
-/// there is no other.
+/// there is no other. NoMemory, if memory was refused, may come before any of them.
 pub fn carried(alloc: Global, table: &[u8]) -> Result<Vec<Digest>, CarriedFault>
     ensures exact { IfOk result (λ digests. IsCarried table.now digests.items) }
 

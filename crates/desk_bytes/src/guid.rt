@@ -101,7 +101,7 @@ impl Guid {
         Ok(Guid(swap_groups(&bytes)))
     }
 
-    /// The text in lower case.
+    /// The text in lower case. Takes memory for it.
     pub fn text(&self, alloc: Global) -> Result<String, AllocError>
         ensures { IfOk result (λ text. string_bytes text ≡ text_of self.now) }
     {

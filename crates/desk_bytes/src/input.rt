@@ -36,12 +36,12 @@ impl InputFault {
     }
 }
 
-/// The most bytes that one read asks for.
+/// The most bytes of one read.
 const PIECE: usize = 65_536;
 
-/// Reads until there are `most` bytes or the input ends, and never asks for more. An interrupted
+/// Reads until there are `most` bytes or the input ends, and no byte after them. An interrupted
 /// read is a fault and isn't retried; no read follows a failed one. Takes memory for what it reads:
-/// 65,536 bytes or `most` at once, and more as it comes.
+/// 65,536 bytes, or `most` if that is fewer, at once, and more as it comes.
 ///
 /// `Read`: the reader failed, or a read of this watch had failed before. `NoMemory`: memory was
 /// refused; no read failed.
@@ -79,8 +79,11 @@ pub fn read_up_to<R: Read>(
     Ok(bytes)
 }
 
-/// Reads an input to its end. TooLong if it has more than `most` bytes; at most one byte past the
-/// limit is read. An interrupted read is a fault and isn't retried. Takes memory for what it reads.
+/// Reads an input to its end. An interrupted read is a fault and isn't retried. Takes memory for
+/// what it reads.
+///
+/// `TooLong`: the input has more than `most` bytes; at most one byte past the limit is read. `Read`:
+/// the reader failed. `NoMemory`: memory was refused.
 pub fn read_all<R: Read>(alloc: Global, reader: &mut R, most: usize) -> Result<Vec<u8>, InputFault>
     requires { most < 2 ^ 64 - 1 }
     ensures whole { IfOk result (λ bytes.

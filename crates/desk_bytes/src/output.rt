@@ -22,7 +22,8 @@ impl WriteFailed {
 }
 
 /// Writes all of the bytes, in as many writes as the writer needs. An interrupted write and one
-/// that takes nothing are faults and aren't retried.
+/// that takes nothing are faults and aren't retried. After a fault the writer holds a prefix of the
+/// bytes, which may be empty.
 pub fn put<W: Write>(bytes: &[u8], writer: &mut W) -> Result<(), WriteFailed>
     ensures ok { OnOk result (Appends (W.contents writer.old) (W.contents writer.new) bytes.now) }
     ensures err { OnErr result

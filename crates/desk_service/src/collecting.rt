@@ -59,7 +59,8 @@ fn read_components<S: Source>(
 ///
 /// Of several faults the layout's comes first, then that of the certificates, then that of the
 /// components. Read, and Layout with Read, are returned only if the source's failure count rose or
-/// was already at its maximum.
+/// was already at its maximum. NoMemory, also within Carried and Components, may come before any
+/// other fault but the layout's: memory was refused.
 pub fn facts<S: Source>(alloc: Global, source: &mut S) -> Result<Facts, FactsFault>
     ensures exact { IfOk result (IsFactsOf (S.content source.old)) }
 

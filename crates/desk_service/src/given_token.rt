@@ -12,7 +12,7 @@ const MOST_READ: usize = 66;
 
 /// Reads the first line of an input up to its first space, one byte at a time, and no byte after
 /// that. The line ends at an LF, which drops one CR before it, or at the end of the input, which
-/// drops none. TooLong if the line begins with more bytes than a digest has digits.
+/// drops none. TooLong if 66 bytes come before any of these.
 fn read_first_word<R: Read>(alloc: Global, reader: &mut R) -> Result<Vec<u8>, InputFault>
     ensures word { IfOk result (λ word. IfSome (R.remaining reader.old)
         (λ given. word.items ≡ spec.first_word given)) }
@@ -41,8 +41,8 @@ fn read_first_word<R: Read>(alloc: Global, reader: &mut R) -> Result<Vec<u8>, In
 /// otherwise. No byte after the digits and the space or the line's end is read. Takes memory for the
 /// digits.
 ///
-/// TooLong if the line has more than 64 bytes before a space. Read if the reader failed or was
-/// interrupted; no read is retried.
+/// TooLong if 66 bytes come before a space, an LF or the end: more than the 64 digits and a CR. Read
+/// if the reader failed or was interrupted; no read is retried. NoMemory if memory was refused.
 pub fn read_token_digest<R: Read>(
     alloc: Global,
     reader: &mut R,

@@ -22,7 +22,10 @@ impl From<ReadFailed> for PartFault {
     }
 }
 
-/// The bytes of a span, or none if there is no span.
+/// The bytes of a span, or none if there is no span. Takes memory for them.
+///
+/// `Read`: the read failed; the source's failure count rose, or was already at its maximum.
+/// `NoMemory`: memory was refused.
 pub fn read_part<S: Source>(
     alloc: Global,
     source: &mut S,

@@ -21,7 +21,7 @@ longest_table = 1048576
 abbrev pub longest_text : ℕ
 longest_text = 65536
 
--- the headers up to the signature ("MS-DOS Stub", "Signature")
+-- the headers up to the signature ("MS-DOS Stub", "Signature"). own: the file isn't too long
 abbrev pub start_checks : List ℕ → List (Bool × LayoutFault)
 start_checks f =
     (nat_le (length f) longest_image, TooLong)
@@ -68,7 +68,7 @@ section_checks spans headers_end size =
     ∷ (list_all (λ s. nat_le headers_end s.from) spans && are_apart spans, Overlap)
     ∷ []
 
--- own: the certificate table is the end of the file, and begins after the sections
+-- own: the certificate table is the end of the file, begins after the sections, and isn't too long
 abbrev pub table_checks : List ℕ → List (Bool × LayoutFault)
 table_checks f = (
   not (has_table f)
@@ -78,7 +78,7 @@ table_checks f = (
     ∷ (not (has_table f) || nat_le (table_size f) longest_table, TooLong)
     ∷ []
 
--- own: there is one section `.sbat` at most
+-- own: there is one section `.sbat` at most, and its text isn't too long
 abbrev pub sbat_checks : List Header → List (Bool × LayoutFault)
 sbat_checks hs =
     (nat_le (sbat_count hs) 1, TwoSbat)

@@ -49,6 +49,9 @@ fn end_of(table: Option<Span>, length: u64) -> u64
 }
 
 /// The layout of an image. Only its headers are read, and no memory is taken.
+///
+/// The fault is that of the first check that fails (`checks`, specs/Checks.antt), or `Read` if a
+/// read failed.
 pub fn layout<S: Source>(source: &mut S) -> Result<Layout, LayoutFault>
     ensures exact { IfOk result (λ places. IsLayoutOf (S.content source.old) places) }
 

@@ -84,9 +84,9 @@ fn read_piece<R: Read>(
 }
 
 impl Pieces {
-    /// Reads until `most` bytes have come or the input ends, and never asks for more. An
-    /// interrupted read is a fault and isn't retried; no read follows a failed one. Takes memory
-    /// for what it reads, in pieces of 65,536 bytes.
+    /// Reads until `most` bytes have come or the input ends, and no byte after them. An interrupted
+    /// read is a fault and isn't retried; no read follows a failed one. Takes memory for what it
+    /// reads, in pieces of 65,536 bytes.
     ///
     /// `Read`: the reader failed, or a read of this watch had failed before. `NoMemory`: memory was
     /// refused; no read failed.

@@ -28,7 +28,7 @@ fn keep(found: &mut Vec<Component>, component: Component) -> Result<(), AllocErr
 /// most 257 components.
 ///
 /// The first wrong line is returned as Row with its number. TooLong, for more than 256 components,
-/// comes only if no line is wrong.
+/// comes only if no line is wrong. NoMemory: memory was refused.
 pub fn components(alloc: Global, text: &[u8]) -> Result<Components, SbatFault>
     ensures exact { IfOk result (IsComponents text.now) }
 

@@ -79,7 +79,8 @@ impl Level {
     }
 
     /// Raises the generation of the component's name, which isn't `sbat`, to the component's,
-    /// unless it is higher already. Takes memory for the name.
+    /// unless it is higher already. Takes memory for the name; if it is refused, the level doesn't
+    /// change.
     pub fn raise(&mut self, component: &Component) -> Result<(), AllocError>
         requires other { bytes_eq component.now.name sbat ≡ false }
         ensures ok { OnOk result

@@ -79,7 +79,8 @@ fn read_rows(alloc: Global, stamp: Stamp, lines: Parted<'_>) -> Result<Level, Sb
 /// does. Takes memory for at most 10,001 names.
 ///
 /// The first wrong line is returned as Row with its number, which is 1 if there is no line.
-/// TooLong, for more than 10,000 different names, comes only if no line is wrong.
+/// TooLong, for more than 10,000 different names, comes only if no line is wrong. NoMemory: memory
+/// was refused.
 pub fn read_level(alloc: Global, text: &[u8]) -> Result<Level, SbatFault>
     ensures exact { IfOk result (IsLevelOf text.now) }
 

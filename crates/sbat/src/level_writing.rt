@@ -12,7 +12,8 @@ use desk_bytes::{WriteFailed, put_each};
 use itoa::Buffer;
 use std::io::Write;
 
-/// Writes the first line of a level: `sbat,1,` and the stamp.
+/// Writes the first line of a level: `sbat,1,`, the stamp and LF. If the writer fails, it holds a
+/// prefix of the line, which may be empty.
 pub fn level_head<W: Write>(stamp: Stamp, writer: &mut W) -> Result<(), WriteFailed>
     ensures ok { OnOk result (Appends (W.contents writer.old) (W.contents writer.new)
         (head_text stamp)) }
@@ -36,7 +37,8 @@ fn put_row<W: Write>(name: &str, generation: Generation, writer: &mut W) -> Resu
     put_each(&[name.as_bytes(), b",", generation, b"\n"], writer)
 }
 
-/// Writes the line of one name: the name, a comma and its generation without leading zeros.
+/// Writes the line of one name: the name, a comma, its generation without leading zeros, and LF. If
+/// the writer fails, it holds a prefix of the line, which may be empty.
 pub fn level_row<W: Write>(
     name: &ComponentName,
     generation: Generation,
@@ -51,7 +53,8 @@ pub fn level_row<W: Write>(
 }
 
 /// Writes the text of a level: `sbat,1,` and the stamp, then each name, a comma and its generation
-/// without leading zeros, ascending by the names' bytes. LF ends each line.
+/// without leading zeros, ascending by the names' bytes. LF ends each line. If the writer fails, it
+/// holds a prefix of the text, which may be empty.
 pub fn write_level<W: Write>(level: &Level, writer: &mut W) -> Result<(), WriteFailed>
     ensures ok { OnOk result (Appends (W.contents writer.old) (W.contents writer.new)
         (level_text level.now)) }

@@ -50,12 +50,14 @@ fn read_digests(alloc: Global, text: &[u8]) -> Result<Vec<Digest>, PackFault>
 }
 
 /// Reads lines of 64 hexadecimal digits to the end, writes the digests as one SHA256 list,
-/// ascending, each once, and returns their count. Nothing is written if there is no digest, nor
-/// before all lines are read. Takes memory for the text and its digests; the time is that of
-/// sorting them.
+/// ascending, each once, and returns their count. Empty lines are counted and left out. Nothing is
+/// written if there is no digest, nor before all lines are read. Takes memory for the text and its
+/// digests; the time is that of sorting them.
 ///
-/// The text may have 8,388,608 bytes, which is checked before its lines. An interrupted read or
-/// write is a fault. The clauses say nothing of a reader or writer whose bytes aren't known.
+/// TooLong: the text has more than 8,388,608 bytes, which is checked before its lines. Line: the
+/// first line that isn't 64 hexadecimal digits. Read: a read failed. NoMemory: memory was refused.
+/// Write: a prefix of the list was written. An interrupted read or write is a fault. The clauses say
+/// nothing of a reader or writer whose bytes aren't known.
 pub fn pack<R: Read, W: Write>(
     alloc: Global,
     owner: &Guid,

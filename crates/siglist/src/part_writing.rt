@@ -1,4 +1,5 @@
-//! The writing of lists in parts: a head, and then its entries.
+//! The writing of lists in parts: a head, and then its entries. If the writer fails, it holds a
+//! prefix of the part, which may be empty.
 ghost use Rattle.std.specs.Prelude.{◌≤◌, OnErr, OnOk};
 ghost use Rattle.std.specs.Io.KnownBytes.{Appends};
 ghost use Rattle.desk_bytes.specs.Output.{AppendsBeginning};

@@ -1,4 +1,4 @@
-//! The writing of lists.
+//! The writing of lists. If the writer fails, it holds a prefix of the bytes, which may be empty.
 ghost use Rattle.std.specs.Prelude.{◌+◌, ◌*◌, ◌<◌, ◌≤◌, ◌^◌, length, OnOk, OnErr};
 ghost use Rattle.std.specs.Int.{w32, to_le_bytes};
 ghost use Rattle.std.specs.Io.KnownBytes.{Appends};

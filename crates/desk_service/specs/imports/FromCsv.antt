@@ -65,7 +65,7 @@ pub record IsCsvImport (text : List ℕ) (stamp : Option ℕ) (command : Command
   pub is : IsCommandOf stamp items command
 
 -- own: why a file is refused: the number of its first wrong record, or TooLong, only if no record
--- is wrong
+-- is wrong; NoMemory may come at any time
 abbrev pub IsRefused : Result (List Item) ℕ → ImportFault → Type 0
 IsRefused read (fault.Lists why) = ⊥
 IsRefused read (fault.Record number) = read ≡ Err number

@@ -26,7 +26,7 @@ pub record IsLevelImport (text : List ℕ) (command : Command) : Type 0 where
   pub is : IsCommandOf (Some level.stamp) (level_items level) command
 
 -- own: the text is refused for this; TooLong, for more different names than the limit, only if no
--- line is wrong
+-- line is wrong; NoMemory may come at any time
 abbrev pub RefusesLevelImport : List ℕ → ImportFault → Type 0
 RefusesLevelImport text (fault.Lists why) = ⊥
 RefusesLevelImport text (fault.Record number) = ⊥

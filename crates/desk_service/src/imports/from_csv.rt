@@ -74,7 +74,8 @@ fn gather(alloc: Global, reader: &mut Reader<&[u8]>) -> Result<Gathered, ImportF
 /// 10,001 entries, and for the longest record.
 ///
 /// The first wrong record is returned as Record with its number; a missing or wrong header is
-/// record 0. TooLong, for more than 10,000 entries, comes only if no record is wrong.
+/// record 0. TooLong, for more than 10,000 entries, comes only if no record is wrong. NoMemory:
+/// memory was refused.
 pub fn import_csv(alloc: Global, text: &[u8], stamp: Option<Stamp>) -> Result<Command, ImportFault>
     ensures exact { IfOk result (IsCsvImport text.now stamp) }
 

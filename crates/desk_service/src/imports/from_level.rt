@@ -43,7 +43,8 @@ fn gather(alloc: Global, level: &Level) -> Option<Gathered>
 /// text is read as `sbat::read_level` does. Takes memory for at most 10,001 names, twice.
 ///
 /// The first wrong line is returned as Line with its number, which is 1 if there is no line.
-/// TooLong, for more than 10,000 different names, comes only if no line is wrong.
+/// TooLong, for more than 10,000 different names, comes only if no line is wrong. NoMemory: memory
+/// was refused.
 pub fn import_level(alloc: Global, text: &[u8]) -> Result<Command, ImportFault>
     ensures exact { IfOk result (IsLevelImport text.now) }
 

@@ -33,7 +33,8 @@ fn keep_list(gathered: &mut Gathered, list: &SignatureList<'_>) -> Result<(), Al
 /// 10,001 entries.
 ///
 /// Bytes that aren't a row of lists are refused as Lists, with the offset of the first wrong list.
-/// TooLong, for more than 10,000 entries, comes only if all lists are right.
+/// TooLong, for more than 10,000 entries, comes only if all lists are right. NoMemory: memory was
+/// refused.
 pub fn import_dbx(alloc: Global, bytes: &[u8]) -> Result<Command, ImportFault>
     ensures exact { IfOk result (IsDbxImport bytes.now) }
 
