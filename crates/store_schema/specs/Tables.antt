@@ -132,7 +132,7 @@ proposal_items = keyed_table (codes "proposal_items") 23
     ∷ column_of (codes "name") Text ∷ column_of (codes "generation") Integer ∷ [])
     (1 ∷ 2 ∷ []) []
 
--- the number of calls that were accepted before there were proposals, in one row
+-- the number of calls that were accepted by the first rules, in one row
 abbrev pub migrated : Table
 migrated = numbered_table (codes "migrated") 25 (column_of (codes "id") Integer ∷ column_of (codes "calls") Integer ∷ []) []
 

@@ -52,5 +52,5 @@ pub const INSERT_PROPOSAL: &str =
 pub const INSERT_PROPOSAL_ITEM: &str =
     "INSERT INTO proposal_items (proposal, place, kind, digest, name, generation) VALUES (?1, ?2, ?3, ?4, ?5, ?6)";
 
-/// Inserts how many calls were accepted before there were proposals: id, calls.
+/// Inserts how many calls were accepted by the first rules: id, calls.
 pub const INSERT_MIGRATED: &str = "INSERT INTO migrated (id, calls) VALUES (?1, ?2)";

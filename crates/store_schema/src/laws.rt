@@ -196,7 +196,7 @@ pub fn proposal_items_statements()
         (columns_after 2 proposal_items) (names_of proposal_items) }
 {}
 
-/// How many calls were accepted before there were proposals: put in.
+/// How many calls were accepted by the first rules: put in.
 pub fn migrated_statements()
     ensures { InsertsRow desk_layout 14 migrated INSERT_MIGRATED.now (values_of migrated) }
 {}

@@ -12,8 +12,8 @@ ghost use Rattle.store_sql.specs.States.{Leaves, Shows};
 
 use sqlite::{Alter, Connection};
 
-/// Outside a transaction a stop leaves exactly the tables that an open connection shows, with their
-/// rows.
+/// Outside a transaction a stop leaves the tables of a layout that an open connection shows, with
+/// their rows. Nothing is said of the rows of other tables.
 pub fn stop_leaves_what_is_shown<S: Alter>(conn: &Connection<S>)
     ensures { (layout : Layout) (c : Contents) → Shows layout (state S.Store conn.now) c
         → IsTrue (state S.Store conn.now).is_open

@@ -78,7 +78,8 @@ fn rows_and_sizes<S: Alter>(
 /// which must be current (`shown`). Nor is the caller looked up if that is the person who is
 /// remembered. Takes memory for the rows.
 ///
-/// `Store`: the store failed, or a row that the call names isn't one that the desk writes.
+/// `NoMemory`: memory was refused. `Store`: the store failed, or a row that the call names isn't one
+/// that the desk writes. After either, what is remembered doesn't change.
 pub fn view<S: Alter>(
     alloc: Global,
     tx: &mut Transaction<'_, S>,
@@ -156,7 +157,8 @@ fn rows_to_confirm<S: Alter>(
 /// gives it, as `view` does for a call: the view is one for a caller and a key that no call has, so
 /// neither is looked up. Takes memory for the rows.
 ///
-/// `Store`: the store failed, or a row isn't one that the desk writes.
+/// `NoMemory`: memory was refused. `Store`: the store failed, or a row isn't one that the desk
+/// writes. After either, what is remembered doesn't change.
 pub fn view_to_confirm<S: Alter>(
     alloc: Global,
     tx: &mut Transaction<'_, S>,

@@ -38,7 +38,7 @@ fn put_own<S: Alter>(tx: &mut Transaction<'_, S>, owner: &Guid) -> Result<(), St
     Ok(())
 }
 
-/// Inserts how many calls were accepted by the first rules.
+/// Inserts how many calls were accepted by the first rules. `Store` also for more than 2^63 - 1.
 pub fn put_migrated<S: Alter>(tx: &mut Transaction<'_, S>, calls: u64) -> Result<(), StoreFault>
     ensures same_reference { tx.new.conn.ghost_name ≡ tx.old.conn.ghost_name }
     ensures value { Steps S.Store tx.old.conn.now tx.new.conn.now result (with_migrated calls) }

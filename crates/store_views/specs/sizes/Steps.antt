@@ -12,7 +12,7 @@ abbrev pub more : Option ℕ → ℕ → Option ℕ
 more None count = None
 more (Some n) count = if nat_lt (n + count) 18446744073709551616 then Some (n + count) else None
 
--- one row less
+-- one row less, if there is one
 abbrev pub one_less : Option ℕ → Option ℕ
 one_less None = None
 one_less (Some n) = if nat_lt 0 n then Some (n - 1) else None

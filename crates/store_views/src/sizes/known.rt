@@ -21,14 +21,14 @@ pub struct KnownSizes {
     proposals: Option<u64>,
 }
 
-/// A size plus `count` rows; `None` if the size isn't known.
+/// A size plus `count` rows; `None` if the size isn't known, or the sum isn't a u64.
 fn more(size: Option<u64>, count: usize) -> Option<u64>
     ensures { result ≡ steps.more size count }
 {
     size?.checked_add(count as u64)
 }
 
-/// A size less one row; `None` if the size isn't known.
+/// A size less one row; `None` if the size isn't known, or is 0.
 fn one_less(size: Option<u64>) -> Option<u64>
     ensures { result ≡ steps.one_less size }
 {
