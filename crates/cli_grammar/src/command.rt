@@ -17,7 +17,7 @@ struct Shown<'a> {
     help: &'a str,
 }
 
-/// The id of the word at this place of a subcommand. Its name in help is separate.
+/// The id of the word at this place, from 0, of a subcommand. Its name in help is separate.
 pub fn id_at<'a>(place: usize) -> &'a str
     requires { place < length ids }
     ensures { result.now ≡ id_of place }
@@ -419,7 +419,7 @@ fn bare_command<'a>(alloc: Global) -> Result<Command<'a>, AllocError>
         .bin_name("desk")
 }
 
-/// The program's command.
+/// The program's command. Takes memory.
 pub fn desk_command<'a>(alloc: Global) -> Result<Command<'a>, AllocError>
     ensures { IfOk result (λ c. app_of c ≡ desk_app) }
 {

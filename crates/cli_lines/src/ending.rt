@@ -10,7 +10,7 @@ use desk_bytes::Refusal;
 pub enum Outcome {
     /// It is done.
     Done,
-    /// The desk doesn't allow the image.
+    /// The desk doesn't allow the image, or the Confirm would bar an image that it allows now.
     Refused,
 }
 

@@ -1,4 +1,4 @@
-//! What the words ask for, with the values that they spell.
+//! The subcommands that the words name, with the values that they spell.
 use crate::alone::{facts_of, list_in, pack_input, ranges_of};
 use crate::line::{AuditWords, FollowWords, PersonWords, ServeWords, Words, WordsFault};
 use crate::telling::{MISUSED, tell_fault, tell_stop};

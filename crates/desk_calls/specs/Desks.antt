@@ -43,15 +43,15 @@ IsReadingRefusal reading refusal = IsTrue (may_refuse reading refusal) ⊎ IsOut
 abbrev pub IsReopened : {X : Type 0} → Result X Refusal → Type 0
 IsReopened result = result ≡ Err refusals.Reopen
 
--- own: so it has, or the person is told what is due at any history, for example that the person's
--- role has no report
+-- own: the desk has to be opened again, or the answer is due at each history, for example that the
+-- person's role has no report
 abbrev pub IsShut : Person → Reading → Result (Shown (List ShownRequest)) Refusal → Type 0
 IsShut p reading result =
     IsReopened result ⊎ ((owner : List ℕ) (cs : History) → IsShownTo is_text_of owner cs p reading result)
 
--- own: a call of a desk, whatever it asks for, and its failures. `shows` says what a desk shows,
--- `clean` that its disk has returned what was written, `failed` that its store failed, `may_come`
--- which refusals there are, `shut` what a desk that had failed may answer
+-- own: any call of a desk, and its failures. `shows` says what a desk shows, `clean` that its disk
+-- has returned what was written, `failed` that its store failed, `may_come` which refusals there
+-- are, `shut` what a desk that had failed may answer
 pub record FailsSafely {D X : Type 0} (shows : D → List ℕ → History → Type 0) (clean failed : D → Type 0) (may_come : Refusal → Type 0) (shut : Result X Refusal → Type 0) (old new : D) (result : Result X Refusal) : Type 0 where
   -- a disk that is clean after the call was clean before
   pub before : clean new → clean old

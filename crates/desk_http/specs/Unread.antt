@@ -16,7 +16,7 @@ CanCome (unread.Outage outage.Store) = ⊤
 CanCome (unread.Outage outage.Reopen) = ⊥
 CanCome (unread.Outage outage.NotADesk) = ⊥
 
--- the desk, which may be asked for the caller while a request is read
+-- the desk, in which the caller may be looked up while a request is read
 pub record AsksSafely {D X : Type 0} (shows : D → List ℕ → History → Type 0) (clean failed : D → Type 0) (old new : D) (result : Result X Unread) : Type 0 where
   -- except for Store it shows the same
   pub same : clean new → result ≢ Err (unread.Outage outage.Store) → StillShows (shows old) (shows new)

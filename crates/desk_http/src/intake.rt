@@ -65,8 +65,8 @@ impl Intake {
         }
     }
 
-    /// Reads the `size` bytes of a body, or gives `None` where the input ends before them. Nothing
-    /// past them is asked for. Takes memory for what it reads, as it comes.
+    /// Reads the `size` bytes of a body, or gives `None` if the input ends before their end. It
+    /// reads no byte after them. Takes memory for what it reads, as it comes.
     pub(crate) fn read_bytes<R: Read>(
         &mut self,
         alloc: Global,
@@ -85,8 +85,8 @@ impl Intake {
         }
     }
 
-    /// Reads the `size` bytes of an image into pieces, or gives `None` where the input ends before
-    /// them. Nothing past them is asked for. Takes memory for what it reads, as it comes.
+    /// Reads the `size` bytes of an image into pieces, or gives `None` if the input ends before
+    /// their end. It reads no byte after them. Takes memory for what it reads, as it comes.
     pub(crate) fn read_image<R: Read>(
         &mut self,
         alloc: Global,

@@ -67,7 +67,7 @@ abbrev pub ShowsConfirm : Viewed → ℕ → List ℕ → History → Type 0
 ShowsConfirm viewed k owner cs =
     Shows viewed.view (tables owner cs) (to_confirm k) × AreRight viewed.sizes (tables owner cs)
 
--- the caller is told this, and the sizes are right
+-- the answer to the caller, but for the images, and the sizes are right
 abbrev pub TellsOutlook : History → Caller → ℕ → List ℕ → Told → Type 0
 TellsOutlook cs c k owner told =
     GivesOutlook cs c k told.given × AreRight told.sizes (tables owner cs)

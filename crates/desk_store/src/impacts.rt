@@ -121,7 +121,7 @@ impl<'a> Foretelling<'a> {
         }
     }
 
-    /// What the caller, who is shown impacts, is told.
+    /// The answer, but for the images, to a caller who may see impacts.
     fn look<S: Alter>(&self, alloc: Global, tx: &mut Transaction<'_, S>) -> Result<Told, Refusal>
         ensures same_reference { tx.new.conn.ghost_name ≡ tx.old.conn.ghost_name }
         ensures value { DoesInside S.Store tx.old.conn.now tx.new.conn.now result

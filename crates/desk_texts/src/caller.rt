@@ -27,6 +27,8 @@ impl Caller {
 
     /// The caller whose name in the minutes this is: the console for `console`, otherwise the
     /// person of that name. Takes memory for the name.
+    ///
+    /// `Form`: no caller has this name. `NoMemory`: memory was refused.
     pub fn parse(alloc: Global, name: &[u8]) -> Result<Caller, TextFault>
         ensures found { (caller : Caller) → IsCaller caller → is_told_by_name caller ≡ true
             → name.now ≡ caller_name caller

@@ -20,7 +20,7 @@ const LONGEST_TITLE: usize = 120;
 /// The most bytes of a note.
 const LONGEST_NOTE: usize = 200;
 
-/// The most digits of a request's number.
+/// The most digits of the number of a request or a proposal.
 const MOST_DIGITS: usize = 6;
 
 /// True if each byte is between `low` and `high`, inclusive.

@@ -25,6 +25,8 @@ impl Model for Key {
 
 impl Key {
     /// The key whose bytes these are. Takes memory for them.
+    ///
+    /// `Form`: they aren't a key. `NoMemory`: memory was refused.
     pub fn parse(alloc: Global, text: &[u8]) -> Result<Key, TextFault>
         ensures found { is_key text.now ≡ true
             → MatchResult result (λ key. key ≡ text.now) (λ fault. fault ≡ TextFault.NoMemory) }

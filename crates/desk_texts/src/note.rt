@@ -22,6 +22,8 @@ impl Model for Note {
 
 impl Note {
     /// The note whose bytes these are. Takes memory for them.
+    ///
+    /// `Form`: they aren't a note. `NoMemory`: memory was refused.
     pub fn parse(alloc: Global, text: &[u8]) -> Result<Note, TextFault>
         ensures found { is_note text.now ≡ true
             → MatchResult result (λ note. note ≡ text.now) (λ fault. fault ≡ TextFault.NoMemory) }

@@ -25,6 +25,8 @@ impl Model for PersonName {
 
 impl PersonName {
     /// The name whose bytes these are. Takes memory for them.
+    ///
+    /// `Form`: they aren't a person's name. `NoMemory`: memory was refused.
     pub fn parse(alloc: Global, text: &[u8]) -> Result<PersonName, TextFault>
         ensures found { is_person_name text.now ≡ true
             → MatchResult result (λ name. name ≡ text.now) (λ fault. fault ≡ TextFault.NoMemory) }

@@ -160,6 +160,8 @@ fn without_name(text: &[u8]) -> Option<Reply>
 
 impl Reply {
     /// The reply whose canonical text this is. Takes memory for a name.
+    ///
+    /// `Form`: it is no reply's text. `NoMemory`: memory was refused.
     pub fn parse(alloc: Global, text: &[u8]) -> Result<Reply, TextFault>
         ensures found { (reply : Reply) → IsReply reply → text.now ≡ reply_text_of reply
             → MatchResult result (λ read. read ≡ reply) (λ fault. fault ≡ TextFault.NoMemory) }

@@ -22,6 +22,8 @@ impl Model for Title {
 
 impl Title {
     /// The title whose bytes these are. Takes memory for them.
+    ///
+    /// `Form`: they aren't a title. `NoMemory`: memory was refused.
     pub fn parse(alloc: Global, text: &[u8]) -> Result<Title, TextFault>
         ensures found { is_title text.now ≡ true
             → MatchResult result (λ title. title ≡ text.now) (λ fault. fault ≡ TextFault.NoMemory) }

@@ -45,11 +45,11 @@ fn check_parts<'b>(routes: &Routes, head: &Head<'b>) -> Result<Wanted<'b>, Wante
     })
 }
 
-/// What a head asks for, or the first check that fails, in this order: no Transfer-Encoding; each
+/// What a head requests, or the first check that fails, in this order: no Transfer-Encoding; each
 /// field that counts comes once at most and Content-Length has 1 to 10 digits; the target is a path
 /// of the table, whose minutes have a number of 1 to 7 digits without a leading zero; the path has
 /// the method; POST has a Content-Length and GET has none above 0; the length is within the route's
-/// limit. Who calls isn't looked at.
+/// limit. It doesn't check the caller.
 pub fn check_head<'b>(routes: &Routes, head: &'b ParsedHead) -> Result<Wanted<'b>, WantedFault>
     ensures { (h : RequestHead) (rest : List ℕ) → ReadsRequest head.now h rest
         → spec.Gives (spec.wanted_of (parts_of h)) result }

@@ -5,7 +5,7 @@ ghost use Rattle.http_responses.specs.Responses as spec;
 /// The kind of a response's body, for the field `Content-Type` (RFC 9110, section 8.3).
 #[derive(Clone, Copy, Debug, PartialEq, Eq)]
 pub enum Content {
-    /// Replies, requests, verdicts and refusals.
+    /// Replies, requests, proposals, impacts, people, facts, verdicts and refusals.
     Json,
     /// A level, the report, and minutes.
     Text,

@@ -83,7 +83,7 @@ impl Disk for MemoryDisk {
         Ok(())
     }
 
-    /// Whoever asks knows the digest of these bytes: so it isn't computed again.
+    /// The caller has the digest of these bytes, so it isn't computed again.
     fn read_checked(&mut self, _key: u64, _want: u64, at: usize, buf: &mut [u8]) -> io::Result<()> {
         self.read_at(at, buf)
     }

@@ -29,7 +29,7 @@ fn token_digest_from<R: Read>(alloc: Global, reader: &mut R) -> Result<Digest, S
 }
 
 /// The key and the person of the words, with the token's SHA-256 from the reader: the same as
-/// `person_from` with the token itself.
+/// `person_from` with the token itself, with the same faults.
 pub fn enrolled_from<R: Read>(
     alloc: Global,
     name: &str,

@@ -65,9 +65,12 @@ fn token_from<R: Read>(alloc: Global, reader: &mut R) -> Result<Digest, Stop>
     }
 }
 
-/// The key and the person of the words, with the token from the reader. The first word that isn't
-/// in its form is the fault; the token comes after all words, and isn't read before they are right.
-/// Takes memory for the texts.
+/// The key and the person of the words, with the SHA-256 of the token: the first line of the
+/// reader. Takes memory for the texts.
+///
+/// `Word`: this is the first of the name, the role, the key and the token that isn't in its form.
+/// The token isn't read before the words are right. `Fault`: `Read`, if the reader failed, or
+/// `NoMemory`, if memory was refused.
 pub fn person_from<R: Read>(
     alloc: Global,
     name: &str,

@@ -76,6 +76,9 @@ fn level_in(alloc: Global, value: &Value) -> Result<Raise, BodyFault>
 }
 
 /// Reads the body `{"note":TEXT,"vote":"yes" or "no"}` of a review of the request. Takes memory.
+///
+/// `BadBody`: the bytes aren't this object, or the text isn't a note. `NoMemory`: memory was
+/// refused.
 pub fn read_review(alloc: Global, request: RequestNumber, body: &[u8]) -> Result<Ballot, BodyFault>
     ensures ok { IfOk result (λ ballot. spec.review_of request body.now ≡ Some ballot) }
     ensures err { IfErr result (spec.Refuses (spec.review_of request body.now)) }
@@ -85,6 +88,8 @@ pub fn read_review(alloc: Global, request: RequestNumber, body: &[u8]) -> Result
 }
 
 /// Reads the body `{"digest":HEX}`, with 64 hexadecimal digits of either case. Takes memory.
+///
+/// `BadBody`: the bytes aren't this object. `NoMemory`: memory was refused.
 pub fn read_digest(alloc: Global, body: &[u8]) -> Result<Digest, BodyFault>
     ensures ok { IfOk result (λ digest. spec.named_digest body.now ≡ Some digest) }
     ensures err { IfErr result (spec.Refuses (spec.named_digest body.now)) }
@@ -93,7 +98,10 @@ pub fn read_digest(alloc: Global, body: &[u8]) -> Result<Digest, BodyFault>
     digest_in(&value)
 }
 
-/// Reads the body `{"digest":HEX,"kind":"digest" or "certificate"}`. Takes memory.
+/// Reads the body `{"digest":HEX,"kind":"digest" or "certificate"}`, with 64 hexadecimal digits of
+/// either case. Takes memory.
+///
+/// `BadBody`: the bytes aren't this object. `NoMemory`: memory was refused.
 pub fn read_unlist(alloc: Global, body: &[u8]) -> Result<Listing, BodyFault>
     ensures ok { IfOk result (λ entry. spec.unlist_of body.now ≡ Some entry) }
     ensures err { IfErr result (spec.Refuses (spec.unlist_of body.now)) }
@@ -103,6 +111,9 @@ pub fn read_unlist(alloc: Global, body: &[u8]) -> Result<Listing, BodyFault>
 }
 
 /// Reads the body `{"component":NAME,"generation":N,"stamp":N}`. Takes memory.
+///
+/// `BadBody`: the bytes aren't this object, or a value isn't in its form. `NoMemory`: memory was
+/// refused.
 pub fn read_level(alloc: Global, body: &[u8]) -> Result<Raise, BodyFault>
     ensures ok { IfOk result (λ raise. spec.level_of body.now ≡ Some raise) }
     ensures err { IfErr result (spec.Refuses (spec.level_of body.now)) }

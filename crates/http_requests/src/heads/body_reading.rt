@@ -81,9 +81,12 @@ fn read_sized<R: Read>(
     }
 }
 
-/// Reads the `size` bytes of a body, or gives `None` where the input ends before them. Nothing past
-/// them is asked for. An interrupted read is a fault. Takes memory for a body of up to 65,536 bytes
-/// at once, and for a longer one as it comes.
+/// Reads the `size` bytes of a body, or gives `None` if the input ends before their end. It reads
+/// no byte after them. An interrupted read is a fault. Takes memory for a body of up to 65,536
+/// bytes at once, and for a longer one as it comes.
+///
+/// `Read`: the reader failed, or a read of this watch had failed before. `NoMemory`: memory was
+/// refused. `TooLong` never comes.
 pub fn read_body<R: Read>(
     alloc: Global,
     reader: &mut R,

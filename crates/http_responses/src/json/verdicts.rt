@@ -17,7 +17,7 @@ pub(crate) fn one_word(alloc: Global, word: &str) -> Result<Value, AllocError>
     json!(in alloc; {"verdict": word})
 }
 
-/// A component below the level, and the generation that the level asks of it.
+/// A component below the level, and the generation that the level requires of it.
 pub(crate) fn below(
     alloc: Global,
     level: Generation,
