@@ -11,8 +11,8 @@ pub enum CarriedFault {
     /// An entry is missing or isn't whole.
     #[error("an entry of the certificate table isn't whole")]
     Table,
-    /// An entry of type 2 has no SignedData, or the certificates in it aren't a row of DER elements,
-    /// or one of them has no TBSCertificate.
+    /// An entry of type 2 has no SignedData, or the certificates in it aren't a row of DER
+    /// elements, or one of them has no TBSCertificate.
     #[error("there is no DER element, SignedData or certificate where one is needed")]
     Der,
     /// There are more than 64 different certificates.

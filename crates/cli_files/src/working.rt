@@ -67,10 +67,10 @@ impl<'a, W: Buffered> Work for Adding<'a, W> {
 /// reply's text and LF. An accepted call stays accepted even if its reply isn't written: the same
 /// call under the same key gets the reply again.
 ///
-/// File: the file doesn't exist, can't be opened, isn't a database, or is in use. NotADesk, Version:
-/// it holds no desk that this program knows. NoMemory: memory was refused. Store: the store failed.
-/// Otherwise the desk's refusal, or Write: a prefix of the line may be written. After Write,
-/// NoMemory and Store the person may have been added.
+/// File: the file doesn't exist, can't be opened, isn't a database, or is in use. NotADesk,
+/// Version: it holds no desk that this program knows. NoMemory: memory was refused. Store: the
+/// store failed. Otherwise the desk's refusal, or Write: a prefix of the line may be written. After
+/// Write, NoMemory and Store the person may have been added.
 pub fn add_person<S: Start, W: Buffered>(
     rt: &HostRuntime,
     path: &str,

@@ -96,8 +96,9 @@ fn make_there<S: Start>(
 
 /// Makes a desk in a file. One that doesn't exist is created, for its user alone, and so is its log.
 ///
-/// `File`, `NoMemory`: as for `connect`. Then as for `Desk::create`: `Exists`: a table, an index or a
-/// view has a name of the desk's tables. `NoMemory`: memory was refused. `Store`: the store failed.
+/// `File`, `NoMemory`: as for `connect`. Then as for `Desk::create`: `Exists`: a table, an index or
+/// a view has a name of the desk's tables. `NoMemory`: memory was refused. `Store`: the store
+/// failed.
 pub fn make<S: Start>(
     rt: &HostRuntime,
     path: &str,
@@ -146,8 +147,9 @@ fn open_there<S: Start>(
 
 /// Opens the desk in a file. One of version 1 becomes one of version 2 (`Desk::open`).
 ///
-/// `File`: the file doesn't exist, and isn't created; or as for `connect`. `NotADesk`, `Version`: it
-/// holds no desk that this program knows. `NoMemory`: memory was refused. `Store`: the store failed.
+/// `File`: the file doesn't exist, and isn't created; or as for `connect`. `NotADesk`, `Version`:
+/// it holds no desk that this program knows. `NoMemory`: memory was refused. `Store`: the store
+/// failed.
 pub fn open<S: Start>(
     rt: &HostRuntime,
     path: &str,

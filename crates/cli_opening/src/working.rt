@@ -74,7 +74,8 @@ fn work_at<D: Disk + Drop, W: Work>(
     close_after(desk, work)
 }
 
-/// Does the work on the desk in a file, and closes it. A desk of version 1 becomes one of version 2.
+/// Does the work on the desk in a file, and closes it. A desk of version 1 becomes one of
+/// version 2.
 ///
 /// The faults of the desk's file come first. File: the file doesn't exist, can't be opened, isn't a
 /// database, or is in use. NotADesk, Version: it holds no desk that this program knows. NoMemory:

@@ -82,8 +82,8 @@ pub fn read_up_to<R: Read>(
 /// Reads an input to its end. An interrupted read is a fault and isn't retried. Takes memory for
 /// what it reads.
 ///
-/// `TooLong`: the input has more than `most` bytes; at most one byte past the limit is read. `Read`:
-/// the reader failed. `NoMemory`: memory was refused.
+/// `TooLong`: the input has more than `most` bytes; at most one byte past the limit is read.
+/// `Read`: the reader failed. `NoMemory`: memory was refused.
 pub fn read_all<R: Read>(alloc: Global, reader: &mut R, most: usize) -> Result<Vec<u8>, InputFault>
     requires { most < 2 ^ 64 - 1 }
     ensures whole { IfOk result (λ bytes.

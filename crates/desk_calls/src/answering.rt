@@ -63,8 +63,8 @@ pub trait Answering {
             → StillShows (shows self.old) (shows self.new) }
         ensures fails { FailsSafely shows clean failed IsOutage IsReopened self.old self.new result };
 
-    /// What the person is shown: a read changes nothing. A list of requests is its text. A desk that
-    /// has failed may still give what is due at any history, for example `NotYourRole` for the
+    /// What the person is shown: a read changes nothing. A list of requests is its text. A desk
+    /// that has failed may still give what is due at any history, for example `NotYourRole` for the
     /// report.
     fn read(&mut self, person: Person, reading: Reading) -> Result<Shown<RequestsText>, Refusal>
         ensures given { clean self.new → IfOk result (λ shown. ForEachShown (shows self.old)

@@ -74,9 +74,9 @@ fn answer_image<D: Answering>(
 /// Answers a call. A body is read before the desk is asked, so its faults come first. Takes memory.
 ///
 /// `Unavailable`: the desk couldn't answer. `NoMemory`: memory was refused, and nothing changed.
-/// `Store`: the store failed. `Reopen`: the store failed before. Such a desk may still give an answer
-/// that is due whatever it holds: the facts of an image, the person's own name and role, the refusal
-/// of a body, or of a report to no officer. Every refusal changes nothing.
+/// `Store`: the store failed. `Reopen`: the store failed before. Such a desk may still give an
+/// answer that is due whatever it holds: the facts of an image, the person's own name and role, the
+/// refusal of a body, or of a report to no officer. Every refusal changes nothing.
 pub fn answer<D: Answering>(alloc: Global, desk: &mut D, call: Call) -> Answer
     ensures served { D.clean desk.new → (owner : List ℕ) (cs : History)
         → D.shows desk.old owner cs

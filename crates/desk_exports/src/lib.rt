@@ -1,6 +1,6 @@
-//! What a desk shows after a history of calls: its exports (dbx, also in shim's form, db, the level,
-//! the minutes), its report, and what each person can read, as definitions, and worked examples of
-//! the exports and the report.
+//! What a desk shows after a history of calls: its exports (dbx, also in shim's form, db, the
+//! level, the minutes), its report, and what each person can read, as definitions, and worked
+//! examples of the exports and the report.
 #![tactic(auto)]
 
 mod export;

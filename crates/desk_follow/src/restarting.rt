@@ -30,10 +30,10 @@ fn crashed<D: Crash + Drop>(conn: Connection<FileStore<D>>) -> Files<D>
 
 /// The machine stops after a run of `follow`, or within it, and the desk's files are opened again,
 /// each with the contents that its disk leaves. The connection is the one that the run returned, or
-/// its desk's. The desk that is then opened has the history of before, or one that extends it by the
-/// next lines: it keeps all that was answered Ok before the run. A stop within the run is one at its
-/// end on a disk that failed from some write on. No program has a disk that can `Crash`: this is for
-/// theorems and tests. Takes memory.
+/// its desk's. The desk that is then opened has the history of before, or one that extends it by
+/// the next lines: it keeps all that was answered Ok before the run. A stop within the run is one
+/// at its end on a disk that failed from some write on. No program has a disk that can `Crash`:
+/// this is for theorems and tests. Takes memory.
 ///
 /// A refusal is that of `Desk::open`, or `Store` if the files didn't open.
 pub fn restart_after_run<D: Crash + Drop>(

@@ -38,11 +38,12 @@ fn read_first_word<R: Read>(alloc: Global, reader: &mut R) -> Result<Vec<u8>, In
 
 /// Reads the SHA-256 of a token, 64 hexadecimal digits of either case at the beginning of an
 /// input's first line, alone or followed by a space and anything; `None` if that line begins
-/// otherwise. No byte after the digits and the space or the line's end is read. Takes memory for the
-/// digits.
+/// otherwise. No byte after the digits and the space or the line's end is read. Takes memory for
+/// the digits.
 ///
-/// TooLong if 66 bytes come before a space, an LF or the end: more than the 64 digits and a CR. Read
-/// if the reader failed or was interrupted; no read is retried. NoMemory if memory was refused.
+/// TooLong if 66 bytes come before a space, an LF or the end: more than the 64 digits and a CR.
+/// Read if the reader failed or was interrupted; no read is retried. NoMemory if memory was
+/// refused.
 pub fn read_token_digest<R: Read>(
     alloc: Global,
     reader: &mut R,

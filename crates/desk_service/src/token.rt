@@ -111,8 +111,8 @@ fn read_first_line<R: Read>(alloc: Global, reader: &mut R) -> Result<Vec<u8>, In
 /// Reads a token, the first line of an input, and returns the SHA-256 that a desk keeps of it;
 /// `None` if that line isn't a token. No byte after the line is read. Takes memory for the line.
 ///
-/// TooLong if the line has more bytes than a token with its CR, 129. Read if the reader failed or was
-/// interrupted; no read is retried. NoMemory if memory was refused.
+/// TooLong if the line has more bytes than a token with its CR, 129. Read if the reader failed or
+/// was interrupted; no read is retried. NoMemory if memory was refused.
 pub fn read_token<R: Read>(alloc: Global, reader: &mut R) -> Result<Option<Digest>, InputFault>
     ensures exact { IfOk result (λ kept. IfSome (R.remaining reader.old)
         (λ given. kept ≡ spec.token_in given)) }

@@ -15,13 +15,13 @@ impl<S: Alter + Drop> Desk<S> {
     /// What the person is shown, each by the call of its name: `requests_of`, `request`,
     /// `proposals`, `proposal`, `impact`, `export` into memory, `report`, `minutes_from`, `people`.
     /// Requests are collected into an `L`. The report is for officers: anybody else gets
-    /// `NotYourRole`, even from a desk that has to be opened again. Nothing is changed. Takes memory
-    /// for what is shown.
+    /// `NotYourRole`, even from a desk that has to be opened again. Nothing is changed. Takes
+    /// memory for what is shown.
     ///
     /// `NotYourRole`, `UnknownCaller`, `NoSuchRequest`, `NoSuchProposal`, `ProposalClosed`,
-    /// `AlreadyRevoked`, `NotHigher`, `StampNotLater`, `Full`: as those calls say. `NoMemory`: memory
-    /// was refused. `Store`: the store failed, or isn't as a desk left it. `Reopen`: an earlier call
-    /// answered `Store`.
+    /// `AlreadyRevoked`, `NotHigher`, `StampNotLater`, `Full`: as those calls say. `NoMemory`:
+    /// memory was refused. `Store`: the store failed, or isn't as a desk left it. `Reopen`: an
+    /// earlier call answered `Store`.
     pub fn read<L: RequestList + Drop>(
         &mut self,
         person: Person,

@@ -22,9 +22,9 @@ impl<S: Alter + Drop> Desk<S> {
     /// and what was returned. Nothing is changed. Takes memory for it.
     ///
     /// `NotYourRole`: the console calls. `UnknownCaller`: nobody has the name. `NoSuchRequest`: no
-    /// request has the number, or the caller is a submitter and the request is another person's; the
-    /// answer is the same. `NoMemory`: memory was refused. `Store`: the store failed, or isn't as a
-    /// desk left it. `Reopen`: an earlier call answered `Store`.
+    /// request has the number, or the caller is a submitter and the request is another person's;
+    /// the answer is the same. `NoMemory`: memory was refused. `Store`: the store failed, or isn't
+    /// as a desk left it. `Reopen`: an earlier call answered `Store`.
     pub fn request(
         &mut self,
         caller: &Caller,

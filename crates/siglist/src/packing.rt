@@ -56,8 +56,8 @@ fn read_digests(alloc: Global, text: &[u8]) -> Result<Vec<Digest>, PackFault>
 ///
 /// TooLong: the text has more than 8,388,608 bytes, which is checked before its lines. Line: the
 /// first line that isn't 64 hexadecimal digits. Read: a read failed. NoMemory: memory was refused.
-/// Write: a prefix of the list was written. An interrupted read or write is a fault. The clauses say
-/// nothing of a reader or writer whose bytes aren't known.
+/// Write: a prefix of the list was written. An interrupted read or write is a fault. The clauses
+/// say nothing of a reader or writer whose bytes aren't known.
 pub fn pack<R: Read, W: Write>(
     alloc: Global,
     owner: &Guid,

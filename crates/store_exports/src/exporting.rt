@@ -42,8 +42,8 @@ fn put<S: Alter, W: Write>(
 
 /// Writes an export, with this owner in each entry of dbx, of its form for shim and of db, and this
 /// stamp in the level. Each row is written as the store gives it, and none is kept, except for
-/// shim's form. Takes memory for one row; the minutes take no memory except the store's. Shim's form
-/// takes memory for the digests of the revoked certificates and for their bodies, and for one
+/// shim's form. Takes memory for one row; the minutes take no memory except the store's. Shim's
+/// form takes memory for the digests of the revoked certificates and for their bodies, and for one
 /// command's text.
 ///
 /// `Write`: the writer failed. `NoMemory`: memory was refused, to the desk or to the store.

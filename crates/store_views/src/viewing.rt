@@ -78,8 +78,8 @@ fn rows_and_sizes<S: Alter>(
 /// which must be current (`shown`). Nor is the caller looked up if that is the person who is
 /// remembered. Takes memory for the rows.
 ///
-/// `NoMemory`: memory was refused. `Store`: the store failed, or a row that the call names isn't one
-/// that the desk writes. After either, what is remembered doesn't change.
+/// `NoMemory`: memory was refused. `Store`: the store failed, or a row that the call names isn't
+/// one that the desk writes. After either, what is remembered doesn't change.
 pub fn view<S: Alter>(
     alloc: Global,
     tx: &mut Transaction<'_, S>,

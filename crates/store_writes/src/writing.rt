@@ -49,7 +49,8 @@ fn write<S: Alter>(
     }
 }
 
-/// Makes the writes, one after another, up to the first that fails. Takes memory for a reply's text.
+/// Makes the writes, one after another, up to the first that fails. Takes memory for a reply's
+/// text.
 ///
 /// `NoMemory`: memory was refused. `Store`: the store failed, or a number is above 2^63 - 1.
 pub fn write_all<S: Alter>(

@@ -65,7 +65,8 @@ pub record HasManyEntries (bytes : List ℕ) : Type 0 where
   pub spelt : Spells row bytes
   pub many : IsTooMany (row_items row)
 
--- own: the bytes are refused for this; TooLong only if they are lists; NoMemory may come at any time
+-- own: the bytes are refused for this; TooLong only if they are lists; NoMemory may come at any
+-- time
 abbrev pub RefusesDbx : List ℕ → ImportFault → Type 0
 RefusesDbx bytes (fault.Lists why) = lists.IsRefused bytes why
 RefusesDbx bytes (fault.Record number) = ⊥
