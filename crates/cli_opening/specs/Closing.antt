@@ -33,7 +33,6 @@ module _ {D : Type 0} (g : Ghosts D) (desk : Desk (FileStore D g)) where
   abbrev pub IsClosed : Type 0
   IsClosed = (files : Files D) × AreOfClosed files
 
-  -- own: the desk is closed after its work, unless the desk must be opened again or the close has a
--- fault
+  -- own: the desk is closed after its work, unless it must be opened again or the close has a fault
   abbrev pub Ends : Ending → Type 0
   Ends ending = LeavesUsable ending.work → ending.closing ≡ None → IsClosed

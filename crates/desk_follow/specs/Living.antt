@@ -56,8 +56,8 @@ module _ (s : Start) (before : List Life) (seen : Seen) where
       pub since : IsSince (seen_with new) (new ++ s.earlier)
 
     -- The desk was opened after a run that followed these calls, and after any stop. Its history is
-    -- the earlier one with these calls, and each call that was acknowledged before the run is in it.
-    -- The definition doesn't say how many lines the stop left.
+    -- the earlier one with these calls. It has each call that was acknowledged before the run. How
+    -- many lines the stop left isn't said here.
     pub record IsRecoveredAfterRun : Type 0 where
       pub new : List Item
       pub followed : IsFollowed s new

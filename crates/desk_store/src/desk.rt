@@ -56,8 +56,8 @@ pub struct Desk<S: Alter> {
 impl<S: Alter + Drop> Desk<S> {
     /// Makes a desk without calls, in one transaction: its fifteen tables, and its own row with the
     /// owner of each entry that it exports. The connection must be outside a transaction
-    /// (`is_autocommit`); a refusal returns it. Other tables of the store keep their rows, where their
-    /// schema `AllowsDesk` (`beside`). Takes memory.
+    /// (`is_autocommit`); a refusal returns it. Other tables of the store keep their rows, where
+    /// their schema `AllowsDesk` (`beside`). Takes memory.
     ///
     /// `Exists`: a table, an index or a view of the store has a name of the desk's tables, whatever
     /// the case of ASCII letters. `NoMemory`: memory was refused, and nothing was committed.
