@@ -1,6 +1,7 @@
 // How a command is shown while it is under way, and its answer: one place for all forms.
 
 import { box, button, buttons, fill, focusHeading, h, p, quiet, strong } from './dom.js';
+import { tell } from './keys.js';
 import { explained } from './refusals.js';
 
 /**
@@ -17,13 +18,15 @@ export async function act(command, place, how = {}) {
     for (const control of off) control.disabled = false;
     if (command.isGone()) return null;
     fill(place, answer.kind === 'value' ? null : outcome(command, answer));
+    tell();
     if (!place.isConnected) elsewhere(command, answer);
     return answer.kind === 'value' ? answer.value : null;
 }
 
 /** @param {import('./keys.js').Command} command @param {any} answer that is no reply */
 function outcome(command, answer) {
-    return answer.kind === 'stopped' ? stopped(command, answer.sent) : refusalBox(answer);
+    if (answer.kind !== 'stopped') return refusalBox(answer);
+    return command.answered ? givenUp(command) : stopped(command, answer.sent);
 }
 
 /**
@@ -46,6 +49,7 @@ function elsewhere(command, answer) {
 export function anew(place, first) {
     const said = h('div', { tabindex: '-1' }, first);
     fill(place, first.length > 0 ? said : null);
+    tell();
     if (first.length > 0) said.focus();
     else focusHeading(place);
 }
@@ -81,6 +85,12 @@ function stopped(command, sent) {
         : 'As far as the browser tells, it hadn’t been sent whole; if so, the desk took nothing.';
     const same = 'Done again on this page, it has the same key, so it takes effect once.';
     return box('care', p(strong(`${command.what}: stopped.`), ` ${open} ${same}`));
+}
+
+/** What is shown of one whose key has a reply: the next one has another key. @param {import('./keys.js').Command} command */
+function givenUp(command) {
+    const told = 'The same command was given again meanwhile, and has its answer. Done once more, it takes effect once more.';
+    return box('note', p(strong(`${command.what}: given up.`), ` ${told}`));
 }
 
 /**

@@ -160,7 +160,7 @@ export function post(path, fields, body, how = {}) {
             resolve({ kind: 'lost', status: 0 });
             request.abort();
         };
-        const waits = () => (late = setTimeout(giveUp, ANSWER));
+        const waits = () => (late ||= setTimeout(giveUp, ANSWER));
         request.open('POST', path);
         for (const [name, value] of Object.entries(headers(fields))) request.setRequestHeader(name, value);
         request.upload.addEventListener('progress', (event) => how.progress?.(event.loaded, event.total));

@@ -2,7 +2,7 @@
 // an answer came that tells what the desk did. A lost answer is asked for again with the same key:
 // by itself three times, then by a button. Behind a lost answer a refusal by the proxy tells nothing, so it
 // counts as lost too. A command without an answer, whether it still waits, was given up or was stopped,
-// shares its key with the next one that says the same.
+// shares its key with the next one that says the same; of those that ended with a file, the newest four do.
 
 import { PAUSES, pause, post, settles } from './api.js';
 import { hex } from './words.js';
@@ -24,6 +24,9 @@ export const unanswered = new Set();
 /** Those that were given up or stopped without an answer. @type {Set<Command>} */
 const left = new Set();
 
+/** How many of them may have a file, which stays in memory with each. */
+const FILES = 4;
+
 /** Grows at each sign-out: a key of the person before is of no use. */
 let turn = 0;
 
@@ -37,10 +40,13 @@ export function forgetKeys() {
 
 let told = () => {};
 
-/** @param {() => void} tell is called when `unanswered`, or the state of one of them, changes */
-export function onChange(tell) {
-    told = tell;
+/** @param {() => void} listener is called when `unanswered`, or the state of one of them, changes */
+export function onChange(listener) {
+    told = listener;
 }
+
+/** Tells that a part of a view was emptied: what was shown there of one without an answer may be gone. */
+export const tell = () => told();
 
 export class Command {
     /**
@@ -58,7 +64,7 @@ export class Command {
         this.key = before ?? newKey();
         /** Whether a try under its key may have been taken, though no answer said so. */
         this.open = before !== undefined;
-        /** Whether another command with its key has an answer, so that nothing about the key is open. */
+        /** Whether another command with its key has a reply, so that nothing about the key is open. */
         this.answered = false;
         this.turn = turn;
         /** `idle`, `sending`, `again` while it asks by itself, `lost` while it waits for the button */
@@ -137,10 +143,12 @@ export class Command {
     /** @param {Answer} answer @param {(command: Command) => void} show */
     ends(answer, show) {
         unanswered.delete(this);
-        for (const other of left) if (other.key === this.key) left.delete(other);
+        const isStopped = answer.kind === 'stopped';
+        if (isStopped || settles(answer)) for (const other of left) if (other.key === this.key) left.delete(other);
         // (however far it came: the browser may not know yet that all of it is sent)
-        if (answer.kind === 'stopped' && !this.answered && !this.isGone()) left.add(this);
-        if (settles(answer)) for (const other of unanswered) if (other.key === this.key) other.answered = true;
+        if (isStopped && !this.answered && !this.isGone()) keep(this);
+        // (a refusal says nothing of tries that are still on their way)
+        if (answer.kind === 'value') for (const other of unanswered) if (other.key === this.key) other.answered = true;
         this.becomes('idle', show);
         return answer;
     }
@@ -159,6 +167,13 @@ export class Command {
     forget() {
         this.release(false);
     }
+}
+
+/** Keeps one that has no answer. @param {Command} command */
+function keep(command) {
+    left.add(command);
+    const withFile = [...left].filter((it) => it.body instanceof Uint8Array);
+    for (const old of withFile.slice(0, -FILES)) left.delete(old);
 }
 
 /** Whether two commands say the same. @param {Command} one @param {Command} other */

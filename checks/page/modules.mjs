@@ -222,6 +222,60 @@ async function keys() {
     assert.equal(new Set(gone.keys).size, 2);
 }
 
+/** Runs a command, and stops it at once. */
+function stoppedAtOnce(command) {
+    const stop = new AbortController();
+    const run = command.run(() => {}, { stop: stop.signal });
+    stop.abort();
+    return run;
+}
+
+/** A key that is shared stays one until a reply came, whichever of its commands ends first. */
+async function sharedKeys() {
+    const { PAUSES } = await take('api');
+    const { Command } = await take('keys');
+    PAUSES.fill(1);
+    const command = () => new Command('Submit', '/requests', 'body');
+    // The first one is refused by a proxy, after one with its key was stopped.
+    const unread = new Line([404, '<html>'], ['never'], [200, DONE]);
+    const first = command().run();
+    assert.equal((await stoppedAtOnce(command())).kind, 'stopped');
+    assert.equal((await first).kind, 'refused');
+    const third = command();
+    assert.ok(third.open);
+    assert.equal((await third.run()).kind, 'value');
+    assert.equal(new Set(unread.keys).size, 1, `refused unread: ${unread.keys}`);
+    // The desk refuses a lost one while another with its key is under way, which may be taken.
+    const line = new Line([0], [0], [0], [0], ['never'], [409, REFUSED('WrongState', 24)], [200, DONE], [200, DONE]);
+    const lost = command();
+    assert.ok(!lost.open);
+    let waits;
+    await new Promise((resolve) => {
+        waits = lost.run((of) => of.state === 'lost' && resolve());
+    });
+    const stop = new AbortController();
+    const other = command().run(() => {}, { stop: stop.signal });
+    lost.askAgain();
+    assert.equal((await waits).kind, 'refused');
+    stop.abort();
+    assert.equal((await other).kind, 'stopped');
+    await command().run();
+    await command().run();
+    assert.deepEqual([new Set(line.keys.slice(0, 7)).size, new Set(line.keys).size], [1, 2]);
+}
+
+/** Of uploads that were stopped the newest four have their keys, since each has its file; of others each has. */
+async function keptKeys() {
+    const { Command } = await take('keys');
+    const bodies = ['text', ...[1, 2, 3, 4, 5].map((byte) => Uint8Array.of(byte))];
+    const commands = () => bodies.map((body) => new Command('Submit', '/requests', body));
+    const line = new Line(...Array(6).fill(['never']), ...Array(6).fill([200, DONE]));
+    for (const it of commands()) await stoppedAtOnce(it);
+    for (const it of commands()) await it.run();
+    const isKept = line.keys.slice(6).map((key, at) => key === line.keys[at]);
+    assert.deepEqual(isKept, [true, false, true, true, true, true]);
+}
+
 /** A read that one person began, under way or between two tries, isn't asked in the next one's name, and nobody hears of it. */
 async function reads() {
     const { PAUSES, get, setToken } = await take('api');
@@ -258,5 +312,7 @@ for (const it of imports) await tries(`beginnings of “${it.name}”`, async ()
 for (const it of files) await tries(`beginnings of “${it.name}”`, async () => cut(it.bytes, (await take('pem')).certificateIn));
 await tries('certificates by openssl', ownCertificates);
 await tries('keys', keys);
+await tries('keys that are shared', sharedKeys);
+await tries('keys that are kept', keptKeys);
 await tries('reads', reads);
 console.log(`${imports.length} files of revocations and ${files.length} of certificates as the table has them; ${count} tests of modules`);
