@@ -3,7 +3,7 @@
 
 import { get } from './api.js';
 import { act, refusalBox } from './act.js';
-import { answers, box, buttons, fill, formPart, h, p, strong, sure } from './dom.js';
+import { answers, box, buttons, fill, formPart, h, p, quiet, strong, sure } from './dom.js';
 import { knownOf } from './doubts.js';
 import { changed, standing } from './standing.js';
 import { digest, grouped } from './words.js';
@@ -63,11 +63,14 @@ export async function propose(command, said, off) {
     const reply = await act(command, said, { off });
     if (!reply) return;
     changed();
+    const next = command.open
+        ? 'The desk may have taken it before: see whether it is still open.'
+        : 'It changes nothing until another officer confirms it.';
     fill(
         said,
         box(
             'good',
-            p(strong(`This is proposal ${reply.proposal}. `), 'It changes nothing until another officer confirms it.'),
+            p(strong(`This is proposal ${reply.proposal}. `), next),
             p(h('a', { href: `#/proposals/${Number(reply.proposal)}` }, `Look at proposal ${reply.proposal}`)),
         ),
     );
@@ -107,7 +110,9 @@ export function form(title, body, make) {
         const made = make();
         fault.textContent = 'fault' in made ? made.fault : '';
         if ('fault' in made) return made.at?.focus();
+        fill(said, quiet('Reading from the desk…'));
         const all = await known();
+        fill(said);
         if ('kind' in all) return fill(said, refusalBox(all));
         if (await settled(made.doubts(all))) await propose(made.command(), said, [go]);
         return undefined;

@@ -3,7 +3,7 @@
 import { act, refusalBox } from './act.js';
 import { known, onceAtATime, settled } from './asking.js';
 import { certificateFacts, certificateFile } from './certificate.js';
-import { answers, box, buttons, field, fill, h, p, strong, sure } from './dom.js';
+import { answers, box, buttons, field, fill, h, p, quiet, strong, sure } from './dom.js';
 import { colonDoubts, digestDoubts } from './doubts.js';
 import { UNREAD, fileField } from './files.js';
 import { besideOf, noFacts, postImage } from './images.js';
@@ -14,14 +14,17 @@ import { digestTyped } from './words.js';
 
 /** @param {(said: any) => void} again shows the lists anew */
 export function listing(again) {
-    const done = (/** @type {any} */ reply) => {
+    const done = (/** @type {Command} */ command, /** @type {any} */ reply) => {
         changed();
-        if (reply) again(h('div', { role: 'status' }, box('good', strong('Listed.'), ' It is in db now.')));
+        const now = command.open
+            ? 'The desk may have taken it before: see whether it is still in db.'
+            : 'It is in db now.';
+        if (reply) again(h('div', { role: 'status' }, box('good', strong('Listed.'), ` ${now}`)));
     };
     return h('details', {}, h('summary', {}, 'List a certificate or a digest'), certificateForm(done), digestForm(done));
 }
 
-/** @param {(reply: any) => void} done */
+/** @param {(command: Command, reply: any) => void} done */
 function certificateForm(done) {
     const said = answers();
     const fault = h('p', { class: 'fault', role: 'status' });
@@ -49,7 +52,8 @@ function certificateForm(done) {
         go.disabled = false;
         if ('shown' in looked) return fill(said, looked.shown);
         if (!(await meant(it, looked))) return undefined;
-        return done(await act(new Command('List a certificate', '/db/certificates', it.der), said, { off: [go] }));
+        const command = new Command('List a certificate', '/db/certificates', it.der);
+        return done(command, await act(command, said, { off: [go] }));
     } }, file.place, file.said, image.place, bar, fault, buttons(go), said);
 }
 
@@ -87,7 +91,7 @@ function meant(it, { doubts, image }) {
     );
 }
 
-/** @param {(reply: any) => void} done */
+/** @param {(command: Command, reply: any) => void} done */
 function digestForm(done) {
     const said = answers();
     const fault = h('p', { class: 'fault', role: 'status' });
@@ -98,12 +102,15 @@ function digestForm(done) {
         const hex = digestTyped(typed);
         fault.textContent = hex ? '' : 'A digest is 64 hexadecimal digits.';
         if (!hex) return input.focus();
+        fill(said, quiet('Reading from the desk…'));
         const all = await known();
+        fill(said);
         if ('kind' in all) return fill(said, refusalBox(all));
         // (that it has two digests matters to a revocation alone)
         const doubts = [...colonDoubts(typed, 'image'), ...digestDoubts(hex, all)].filter((it) => it.idle || !it.use);
         if (!(await settled(doubts, 'List it all the same'))) return undefined;
-        return done(await act(jsonCommand('List a digest', '/db/digests', { digest: hex }), said, { off: [go] }));
+        const command = jsonCommand('List a digest', '/db/digests', { digest: hex });
+        return done(command, await act(command, said, { off: [go] }));
     });
     return h(
         'form',

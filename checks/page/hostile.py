@@ -250,6 +250,43 @@ def slips(browser: Browser, place: Place) -> None:
     browser.press("Leave it open")
 
 
+def given_again(browser: Browser, place: Place) -> None:
+    """A proposal whose answer is lost is dropped by another officer, and given again: nobody is told that it is open."""
+    browser.sign_in(token("olga"))
+    browser.module("api.js", "it.PAUSES.fill(200)")
+    browser.go("propose")
+    browser.fill("Digests, one a line", "5" * 64)
+    place.relay.plan = [LOSE, NOT_FOUND, NOT_FOUND, NOT_FOUND]
+    browser.press("Propose")
+    browser.sees("no answer.", 20)
+    browser.press("Give up")
+    browser.sees("it has the same key, so it takes effect once")
+    number = max(it["number"] for it in place.ask("olga", "GET", "/proposals").json())
+    place.does("otto", f"/proposals/{number}/drop", b"")
+    browser.press("Propose")
+    browser.sees(f"This is proposal {number}. The desk may have taken it before: see whether it is still open.")
+
+
+def looked_again(browser: Browser, place: Place) -> None:
+    """A Drop whose answer is lost is still shown once its view is made anew."""
+    number = place.does("otto", "/dbx/digests", json.dumps({"digest": "6" * 64}).encode())["proposal"]
+    browser.sign_in(token("olga"))
+    browser.module("api.js", "it.PAUSES.fill(200)")
+    browser.devtools("Network.enable")
+    browser.devtools("Network.setBlockedURLs", urls=["*/requests"])
+    browser.go(f"proposals/{number}")
+    browser.sees("so no Confirm is offered.")
+    browser.devtools("Network.setBlockedURLs", urls=[])
+    place.relay.plan = [LOSE, NOT_FOUND, NOT_FOUND, NOT_FOUND]
+    browser.press("Drop…")
+    browser.press("Drop it")
+    browser.sees(f"Drop proposal {number}: no answer.", 20)
+    browser.press("Look again")
+    until(20, "the lost Drop is above the view", lambda: browser.all("#waiting button"), browser.text)
+    browser.press("Ask again")
+    browser.sees(f"Drop proposal {number}: done.")
+
+
 def slip(browser: Browser, told: str, meant: list) -> None:
     browser.press("Propose")
     browser.sees("Is that what you mean?")
