@@ -1,6 +1,6 @@
 // A file that is chosen or dropped, and its SHA-256, worked out in the page.
 
-import { field, fill, h, p, quiet } from './dom.js';
+import { button, field, fill, h, p, quiet } from './dom.js';
 import { digest, hex, size } from './words.js';
 
 /** The longest image that the desk reads. */
@@ -34,18 +34,24 @@ export function fileField(label, hint, take, most = MOST_IMAGE) {
     const told = h('div', { class: 'file-told', role: 'status' });
     const place = h('div', { class: 'drop' }, field(label, input, hint), told);
     let turn = 0;
+    const takeOut = () => {
+        input.value = '';
+        chosen(undefined);
+        input.focus();
+    };
+    const fault = (/** @type {string} */ text) => fill(
+        told,
+        h('p', { class: 'fault' }, text, ' ', button('Take it out', takeOut, 'small')),
+    );
     const chosen = async (/** @type {File | undefined} */ file) => {
         const mine = ++turn;
         take(null);
         if (!file) return fill(told);
-        if (file.size > most) return fill(
-            told,
-            h('p', { class: 'fault' }, `${file.name} has ${size(file.size)}; at most ${size(most)} are taken.`),
-        );
+        if (file.size > most) return fault(`${file.name} has ${size(file.size)}; at most ${size(most)} are taken.`);
         fill(told, quiet(`Reading ${file.name}…`));
         const bytes = await file.arrayBuffer().then((it) => new Uint8Array(it), () => null);
         if (mine !== turn) return undefined;
-        if (!bytes) return fill(told, h('p', { class: 'fault' }, `${file.name} can’t be read.`));
+        if (!bytes) return fault(`${file.name} can’t be read.`);
         const sum = await sha256(bytes);
         if (mine !== turn) return undefined;
         fill(
@@ -67,7 +73,7 @@ export function fileField(label, hint, take, most = MOST_IMAGE) {
         event.preventDefault();
         place.classList.remove('over');
         const file = event.dataTransfer?.files[0];
-        if (!file) return;
+        if (!file || input.disabled) return;
         const one = new DataTransfer();
         one.items.add(file);
         input.files = one.files;

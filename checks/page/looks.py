@@ -109,6 +109,21 @@ def waits(browser: Browser, label: str, button: str) -> None:
     browser.sees("The image isn’t read yet: wait, or take it out.")
 
 
+def takes_out(browser: Browser, label: str, path: Path, button: str, told: str) -> None:
+    """Nothing goes out while a file that can't be read is chosen. A button takes it out."""
+    browser.script("window.read = Blob.prototype.arrayBuffer; Blob.prototype.arrayBuffer = () => Promise.reject(new Error())")
+    browser.field(label).send_keys(str(path))
+    browser.sees(f"{path.name} can’t be read.")
+    browser.script("Blob.prototype.arrayBuffer = window.read")
+    browser.press(button)
+    browser.sees("The image isn’t read yet: wait, or take it out.")
+    browser.press("Take it out")
+    if "can’t be read" in browser.text() or browser.script("return document.activeElement !== arguments[0] || arguments[0].files.length", browser.field(label)):
+        fail("a file that can’t be read isn’t taken out, or its field hasn’t the focus")
+    browser.press(button)
+    browser.sees(told)
+
+
 def checked(browser: Browser, path: Path, told: Sequence[str], untold: Sequence[str] = ()) -> None:
     anew(browser, "check")
     chosen(browser, "EFI image", path)
@@ -138,6 +153,7 @@ def compared(browser: Browser, place: Place, at: Dict[str, Path]) -> None:
     browser.sign_in(token("olga"))
     browser.go("propose")
     waits(browser, "An image", "Propose")
+    takes_out(browser, "An image", at["odd.efi"], "Propose", "Give a digest.")
     browser.drop("An image", at["odd.efi"])
     browser.sees("No request that you see has this image.")
     typed = browser.field("Digests, one a line").get_attribute("value")
