@@ -123,9 +123,12 @@ export function heading(place, text, ...beside) {
     titled(`${text} · Kovelamiru`);
 }
 
-/** Gives the focus to the heading of the view, where a button that had it goes. @param {Element} place in the view */
+/**
+ * Gives the focus to the heading of the view, where a button that had it goes; the page isn't scrolled.
+ * @param {Element} place in the view
+ */
 export function focusHeading(place) {
-    place.closest('.view')?.querySelector('h1')?.focus();
+    place.closest('.view')?.querySelector('h1')?.focus({ preventScroll: true });
 }
 
 let [title, waits] = ['Kovelamiru', 0];

@@ -117,10 +117,11 @@ function list(place) {
         if (known >= 2 * seen) scan(seen > 0);
         else if (known < lines.length) tell(0);
     }).then((answer) => {
-        if (!place.isConnected) return;
-        if (answer.kind === 'value') return scan(true);
-        failed = true;
-        return fill(told, h('span', { role: 'alert' }, refusalBox(answer)));
+        if (!place.isConnected) return undefined;
+        failed = answer.kind !== 'value';
+        if (failed) fill(told, h('span', { role: 'alert' }, refusalBox(answer)));
+        // (what is kept is shown all the same)
+        return failed && kept().known === 0 ? undefined : scan(true);
     });
     people(person, filter.person);
     byKind.show(filter.kind, counts);

@@ -10,6 +10,8 @@ const MINUTE = 60000;
 const REST = 100;
 
 let turn = 0;
+/** Grows each time that the person looks. */
+let look = 0;
 /** How one's own requests were when they were last looked at. @type {Map<number, string> | null} */
 let before = null;
 
@@ -33,15 +35,16 @@ export function endWaiting() {
 /** The person looks at these, which are all: what changes from now on is counted. @param {import('./requests.js').Request[]} all */
 export function looked(all) {
     if (me.officer) return;
+    look += 1;
     before = ownOf(all);
     titled(undefined, requests(all));
 }
 
-/** Looks once. An answer that doesn't come leaves the count as it was. */
+/** Looks once. The count stays where no answer comes, or one that may be older than what the person saw meanwhile. */
 export async function count() {
-    const mine = turn;
+    const [mine, last] = [turn, look];
     const answer = await get(me.officer ? '/proposals' : '/requests');
-    if (answer.kind !== 'value' || mine !== turn) return;
+    if (answer.kind !== 'value' || mine !== turn || last !== look) return;
     titled(undefined, (me.officer ? proposals : requests)(answer.value));
 }
 

@@ -101,13 +101,14 @@ def asked(browser: Browser, place: Place, file: str, digest: str) -> None:
 
 
 def unread(browser: Browser) -> None:
-    """That the desk gives no more of the minutes stays told, whatever is filtered."""
+    """That the desk gives no more of the minutes stays told, whatever is filtered; what is kept is shown."""
     browser.module("api.js", "it.PAUSES.fill(50)")
     browser.devtools("Network.enable")
     browser.devtools("Network.setBlockedURLs", urls=["*/minutes/*"])
     browser.go("requests")
     browser.go("history")
     browser.sees("No answer.")
+    browser.sees("olga dropped proposal 2")
     browser.fill(FILTER, "voted")
     browser.sees("rita voted yes")
     if "No answer." not in browser.text():
