@@ -105,6 +105,14 @@ ended 0 "stop $follows"
 script postinst configure 0.0.9
 ended 0 'try-restart kovelamiru-desk.service
 start kovelamiru-standby.timer'
+# dpkg runs the new `postrm` before the old `postinst`, which may be one that knows of no standby.
+script preinst upgrade 0.0.9 0.1.0
+ended 0 "stop $follows"
+script postrm abort-upgrade 0.0.9 0.1.0
+ended 0 'start kovelamiru-standby.timer'
+[ ! -e "$own/run/kovelamiru-standby.stopped" ] || fail 'it counts as stopped'
+script postinst abort-upgrade 0.1.0
+ended 0 ''
 : > full
 script preinst upgrade 0.0.9 0.1.0
 ended 1 "stop $follows

@@ -85,6 +85,19 @@ def harmless(standby):
         fail("swapped words change a file")
 
 
+def torn(program, server, standby, wanted):
+    """After a power cut NUL bytes stand behind the last line end: they are cut, and the missing lines are fetched."""
+    lines = content(standby.minutes).splitlines(keepends=True)
+    db, minutes = program.at("torn.db"), program.file("torn.minutes", b"".join(lines[: len(lines) // 2]) + bytes(4096))
+    script, _, _, *options = standby.words
+    words = [script, db, minutes, *options, "--url", f"http://127.0.0.1:{server.port}"]
+    done = subprocess.run([sys.executable, "-IB", *words], capture_output=True, timeout=300, check=False)
+    if done.returncode:
+        fail(f"desk-standby after a power cut: {done.returncode} {done.stderr!r}")
+    expect(content(minutes), wanted["minutes"], "the minutes after a power cut")
+    expect(program.minutes(db), wanted["minutes"], "the minutes of a standby after a power cut")
+
+
 def kills(server, standby):
     """Kills the server at some moment after the standby has followed twice."""
     while standby.runs < 2 and standby.thread.is_alive():
@@ -148,6 +161,7 @@ def main():
         # It serves. Everybody repeats what was answered in the last seconds, and goes on with the day.
         with Server(program, standby.db) as server:
             works(server, steps[max(0, followed - 20) :])
+            torn(program, server, standby, wanted)
         expect(program.exports(standby.db), wanted, "the standby's exports at the day's end")
         program.audited(wanted)
         print(
