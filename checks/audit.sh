@@ -5,10 +5,12 @@
 # desk's own exports, and writes those exports byte for byte, from a file and from standard input.
 # Each line in turn is changed, left out, doubled and cut: the audit names it. The first wrong line
 # comes before a failed output, and a file that isn't there, a folder, a full output and a wrong word
-# have their statuses. It needs sha256sum.
+# have their statuses. Then 24 minutes, most of them wrong at one line (minutes/audits.txt): `audit`
+# names it, and `follow` stops there, on a new desk and on one with some lines of its own; a read
+# that fails; the longest name and key. It needs cc, python3 and sha256sum.
 set -eu
 . "$(dirname -- "$(readlink -f -- "$0")")/common.sh"
-needs sha256sum
+needs cc python3 sha256sum
 find_program "$@"
 owner=00112233-4455-6677-8899-aabbccddeeff
 enter_room
@@ -124,4 +126,8 @@ for words in '' "$owner" "$owner minutes dbx more"; do
     [ "$got" -eq 2 ] || fail "audit $words: status $got in place of 2"
 done
 
-echo "$runs audits of $lines lines of minutes, and of others"
+# ---- 24 minutes, by audit and by follow
+
+cc -shared -fPIC -O1 -o "$room/fail.so" "$root/checks/fail.c" -ldl
+within 300 python3 -B "$root/checks/requests/audits.py" "$program" "$room/fail.so" > others
+echo "$runs audits of $lines lines of minutes, and of others; $(cat others)"

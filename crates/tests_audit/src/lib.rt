@@ -1,5 +1,0 @@
-//! Tests of minutes that are read, followed and audited.
-#![tactic(auto)]
-
-#[cfg(test)]
-mod tests;
