@@ -16,7 +16,7 @@ find_program "$@"
 [ $# -eq 0 ] || shift
 # The longest first, so that the last ones fill the lanes.
 checks=${*:-tables.sh page.sh client.sh refused-memory.sh refused-requests.sh proxy.sh publish.sh package.sh mirror.sh limits.sh http.sh modules.sh
-    requests.sh faults.sh runbooks.sh audit.sh follow.sh cuts.sh day.sh exports.sh readme.sh version1.sh help.sh upgrade.sh prove.sh runs.sh proved.sh standby.sh openapi.sh}
+    model.sh requests.sh faults.sh runbooks.sh audit.sh follow.sh cuts.sh day.sh exports.sh readme.sh version1.sh help.sh upgrade.sh prove.sh runs.sh spoilt.sh proved.sh standby.sh openapi.sh}
 until=$((SECONDS + 1200))
 enter_room
 trap 'kill $(jobs -p) 2> /dev/null; wait; exit 1' HUP INT TERM

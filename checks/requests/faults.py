@@ -7,14 +7,16 @@ import sys
 from concurrent.futures import ThreadPoolExecutor
 from typing import NamedTuple
 
-from days import ADDED, TWO_OFFICERS, confirms, impact, judges, minutes, reads, refuses, submits, vote
-from desk import PLAIN, Program, Server, digest, end_with_parent, expect, fail, ok, response, said, text
+from days import ADDED, TWO_OFFICERS, confirms, impact, judges, lists, minutes, proposes, reads, refuses, submits, vote
+from desk import PLAIN, Program, Server, digest, digest_list, end_with_parent, expect, fail, ok, response, said, text
 
 PROGRAM, LIBRARY = sys.argv[1:]
 READ, WRITE, STORE = b"device 14 Read\n", b"device 17 Write\n", b"device 41 Store\n"
 NO_STORE = response(503, said({"name": "Store", "refused": 41}))
 # How many bytes a read or a write takes: fewer of the requests and of the responses that are short.
 FEW, MANY = 9, 64
+# And how many a write of an export takes.
+PART = 400
 
 
 class Case(NamedTuple):
@@ -149,6 +151,29 @@ def by_serve(program, base, before, it):
     return counts
 
 
+def exports(program, base):
+    """Each write of an export fails: a prefix of it was written, and the desk stays. How many failed."""
+    desk, failed = program.copied(base, "exports.db"), 0
+    body = digest_list([f"{number:064x}" for number in range(300)])
+    for it in (lists("olga", "k1", digest("aa")), proposes("olga", "k2", "/imports/dbx", body, 1), confirms("otto", "k1", 1, 300, 0, 0, 0)):
+        expect(program.gives("answer", desk, given=it.given), it.due, "before the exports")
+    before = contents(desk)
+    for name, whole in {**program.exports(desk), "shim": program.gives("shim", desk)}.items():
+        for number in range(1, 10_000):
+            env = {**program.env, "LD_PRELOAD": LIBRARY, "PIECE": str(PART), "WRITE": str(number)}
+            ran = subprocess.run([PROGRAM, name, desk], capture_output=True, timeout=60, env=env, check=False)
+            if (ran.returncode, ran.stdout, ran.stderr) == (0, whole, b""):
+                break
+            expect((ran.returncode, ran.stderr), (3, WRITE), f"{name}, write {number} fails")
+            if not whole.startswith(ran.stdout) or len(ran.stdout) > (number - 1) * PART:
+                fail(f"{name}, write {number} fails: {ran.stdout[-300:]!r}")
+        if number <= len(whole) // PART:
+            fail(f"{name}: {number - 1} writes failed")
+        failed += number - 1
+    expect(contents(desk), before, "the desk's file after the exports")
+    return failed
+
+
 def no_accept(program, base):
     """A server whose second accept fails ends; what the first connection was answered stays."""
     it = CASES[1]
@@ -191,6 +216,7 @@ with Program(PROGRAM) as program:
     proposed = program.copied(people, "proposed.db")
     step = TWO_OFFICERS[0]
     expect(program.gives("answer", proposed, given=step.given), step.due, "a proposal")
+    exported = exports(program, people)
     no_accept(program, people)
     full_disk(program, people)
     # (the desks that are copied are opened by nobody from here on)
@@ -199,4 +225,7 @@ with Program(PROGRAM) as program:
         ways = [(way, it) for it in CASES for way in (by_serve, by_answer)]
         counts = [*pool.map(lambda way: way[0](program, *desks[way[1].proposed], way[1]), ways)]
     reads_failed, writes_failed = sum(it.reads for it in counts), sum(it.writes for it in counts)
-    print(f"{reads_failed} reads and {writes_failed} writes failed, each within a request, and the desk went on as it has to")
+    print(
+        f"{reads_failed} reads and {writes_failed} writes failed, each within a request, and {exported} writes of exports; "
+        "the desk went on as it has to"
+    )

@@ -1,14 +1,15 @@
 """The program, but for the answers that a wrong body would give: see ../answers.sh. Its words: the program, the body, and those of a
-subcommand. A body is the call that it stands for and the number of its fault."""
+subcommand. A body is the call that it stands for and the number of its fault, or one of the slips below and 0."""
+import json
 import os
 import socket
 import subprocess
 import sys
 
-from desk import response, said
+from desk import ok, response, said
 
 PROGRAM, CALL, NUMBER, *WORDS = sys.argv[1:]
-NAMES = {"17": "Write", "40": "NoMemory", "41": "Store"}
+NAMES = {"0": "", "17": "Write", "40": "NoMemory", "41": "Store"}
 FAULT = f"device {NUMBER} {NAMES[NUMBER]}\n"
 REFUSED = response(503, said({"name": NAMES[NUMBER], "refused": int(NUMBER)}))
 # A body and a desk's file are large from these lengths on.
@@ -50,11 +51,29 @@ def is_refused(given):
     return CALL == "serve_one" or CALL in ("apply", "apply of a request") and is_command
 
 
+def slipped(given, due):
+    """The response with the body's slip: a Drop's reply is a Confirm's, or an impact lacks its last image."""
+    path, body = given.split(b" ")[1].decode("latin-1"), due.partition(b"\r\n\r\n")[2]
+    if CALL == "another reply" and path.endswith("/drop") and b'"reply"' in body:
+        return ok({**json.loads(body), "reply": "confirmed"})
+    if CALL == "an image less" and path.endswith("/impact") and b'"bars":[{' in body:
+        told = json.loads(body)
+        return ok({**told, "bars": told["bars"][:-1]})
+    return due
+
+
 def answered(given):
     """The response to a request."""
     if given and is_refused(given):
         return REFUSED
-    return subprocess.run([PROGRAM, "answer", WORDS[1]], input=given, capture_output=True, check=True).stdout
+    due = subprocess.run([PROGRAM, "answer", WORDS[1]], input=given, capture_output=True, check=True).stdout
+    return slipped(given, due) if given else due
+
+
+def exported(words):
+    """What a subcommand writes, with the slip that changes the last byte."""
+    ran = subprocess.run([PROGRAM, *words], capture_output=True, check=True)
+    return ran.stdout[:-1] + bytes(it ^ 1 for it in ran.stdout[-1:])
 
 
 def read(peer):
@@ -77,5 +96,7 @@ if WORDS[0] == "serve":
     serve(int(WORDS[2]), int(WORDS[3]))
 elif WORDS[0] == "answer":
     sys.stdout.buffer.write(answered(sys.stdin.buffer.read()))
+elif CALL == f"another byte of {WORDS[0]}":
+    sys.stdout.buffer.write(exported(WORDS))
 else:
     os.execv(PROGRAM, [PROGRAM, *WORDS])
