@@ -15,7 +15,7 @@ set -u
 find_program "$@"
 [ $# -eq 0 ] || shift
 # The longest first, so that the last ones fill the lanes.
-checks=${*:-tables.sh page.sh client.sh refused-memory.sh refused-requests.sh proxy.sh publish.sh package.sh mirror.sh limits.sh http.sh modules.sh
+checks=${*:-tables.sh page.sh client.sh stops.sh refused-memory.sh refused-requests.sh proxy.sh publish.sh package.sh mirror.sh limits.sh http.sh modules.sh
     model.sh requests.sh faults.sh runbooks.sh audit.sh follow.sh cuts.sh day.sh exports.sh readme.sh version1.sh help.sh upgrade.sh prove.sh runs.sh spoilt.sh proved.sh standby.sh openapi.sh}
 until=$((SECONDS + 1200))
 enter_room

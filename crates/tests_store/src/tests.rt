@@ -16,6 +16,7 @@ mod closing;
 mod days;
 mod founding;
 mod line;
+mod restarting;
 mod scripts;
 mod serving;
 mod telling;

@@ -3,10 +3,10 @@ use super::asking::answered;
 use super::founding::{made, made_beside, opened, run};
 use super::*;
 use sqlite::{FileStore, Files, Options};
-use sqlite_disk::{Disk, Memory as MemoryFile};
+use sqlite_disk::{Crash, Disk, Memory as MemoryFile};
 
 /// The log is copied into the database file early: at each sync a file in memory is copied whole.
-const OPTIONS: Options = Options {
+pub(super) const OPTIONS: Options = Options {
     cache_pages: 2_000,
     spill_pages: 2_000,
     checkpoint_frames: 16,
@@ -14,7 +14,7 @@ const OPTIONS: Options = Options {
 };
 
 /// A file in memory.
-pub(super) trait Empty: Disk + Drop {
+pub(super) trait Empty: Crash + Drop {
     /// One without bytes.
     fn empty(alloc: Global) -> Self;
 }
@@ -26,7 +26,7 @@ impl Empty for MemoryFile {
 }
 
 /// Two files without bytes.
-fn empty_files<D: Empty>(alloc: Global) -> Files<D> {
+pub(super) fn empty_files<D: Empty>(alloc: Global) -> Files<D> {
     Files {
         log: D::empty(alloc),
         db: D::empty(alloc),
@@ -42,7 +42,7 @@ fn connected<D: Disk + Drop>(alloc: Global, files: Files<D>) -> Option<Connectio
 }
 
 /// The files of the desk, once it is closed.
-fn closed<D: Disk + Drop>(desk: Desk<FileStore<D>>) -> Option<Files<D>> {
+pub(super) fn closed<D: Disk + Drop>(desk: Desk<FileStore<D>>) -> Option<Files<D>> {
     desk.close().ok()
 }
 
@@ -104,10 +104,10 @@ pub(super) fn if_it_answers<S: Alter + Drop>(
 }
 
 /// A person is added.
-const ADDED: &str = "console p1 add ann officer 1 : added ann";
+pub(super) const ADDED: &str = "console p1 add ann officer 1 : added ann";
 
 /// The person lists a digest.
-const LISTED: &str = "ann a1 list 1 : listed";
+pub(super) const LISTED: &str = "ann a1 list 1 : listed";
 
 /// Whether a desk over two files, closed and opened again with an empty log, has the person who was
 /// added before its close.
