@@ -14,6 +14,7 @@ mod PersonLemmas
 mod QuestionLemmas
 mod ReopeningLemmas
 mod LivingLemmas
+mod FilesLemmas
 mod RestartLemmas
 mod StreamLemmas
 mod ImpactLemmas

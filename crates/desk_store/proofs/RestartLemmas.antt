@@ -1,11 +1,10 @@
--- The step from a desk's files after a stop to the tables that a connection over them finds.
-use Rattle.std.proofs.Common.{pos, ◌≡◌, inl, inr, ℕ, not, true, List, [], ◌∷◌, Option, Some, None, refl, sym, subst, ◌∙◌, arith, IsTrue}
-use Rattle.std.proofs.Math.Logic.{∥∥₁_map₂}
-use Rattle.std.proofs.lemmas.Bool.{and_parts}
-use Rattle.sqlite.specs.Files.{file_state, image_of}
+-- What a stop leaves of a desk's files.
+use Rattle.std.proofs.Common.{pos, ◌≡◌, inl, inr, ℕ, not, true, List, [], ◌∷◌, refl, subst, ◌∙◌, arith, IsTrue}
+use Rattle.std.proofs.Math.Logic.{∥∥₁_map, ∥∥₁_map₂}
+use Rattle.sqlite.specs.Files.{file_state}
 use Rattle.sqlite.specs.Held.{AreDatabases, Held}
 use Rattle.sqlite.specs.State.{State, HasCleanDisk, Survives}
-use Rattle.sqlite.proofs.Theorems.{next_run}
+use Rattle.sqlite.proofs.Theorems.{opens_again}
 use Rattle.sqlite_disk.specs.declared.Disk.{Ghosts}
 use Rattle.sqlite_disk.specs.declared.Files.{Files}
 use Rattle.sqlite_pool.proofs.StateLemmas.{clean_is, may_leave_is}
@@ -15,7 +14,7 @@ use Rattle.sqlite_trees.proofs.Doubt.{no_doubt}
 use Rattle.sqlite_trees.specs.View.{IsClean, IsQuiet}
 use Rattle.sqlite_wal.specs.Files.{outcomes}
 use Rattle.sqlite_wal.specs.Reads.{AreClean}
-use Rattle.std.specs.Prelude.{IfSome}
+use Rattle.sqlite_wal.specs.Recovery.{Image}
 use Rattle.std.proofs.lemmas.List.Folds.{list_all-append}
 use Rattle.desk_history.specs.Calls.{History, Second}
 use Rattle.desk_history.specs.Lives.{Life, NotOpened, is_opened_by_second}
@@ -25,46 +24,34 @@ use Rattle.store_sql.specs.States.{Leaves, Shows}
 use Rattle.store_schema.specs.Tables.{desk_layout, first_layout}
 use Rattle.store_schema.specs.rows.Histories.{HoldsFirst, HoldsHistory, ShowsFirst, ShowsHistory, first_rows_of, rows_of}
 use Rattle.desk_store.specs.Living.{and_refused}
-use Rattle.desk_store.specs.Headline.{HoldsEither, LeavesLives, Seen, none_by_second}
-use Rattle.desk_store.specs.Reopening.{FilesHold, FoundAgain}
+use Rattle.desk_store.specs.Headline.{HoldsEither, Seen, none_by_second}
+use Rattle.desk_store.specs.Reopening.{FoundAgain, ImageHolds, IsAfterStop}
 use Rattle.desk_store.specs.Steps.{Brings}
+use Rattle.desk_store.proofs.FilesLemmas.{outlasts}
+use Rattle.desk_store.proofs.LivingLemmas.{ends_refused}
 use Rattle.desk_store.proofs.VersionLemmas.{second_version}
 
--- files that are clean after a stop were clean before it
-pub both_clean : {D : Type 0} (g : Ghosts D) (given new : Files D) → (IsTrue (g.is_clean new.log) → IsTrue (g.is_clean given.log)) → (IsTrue (g.is_clean new.db) → IsTrue (g.is_clean given.db))
-    → AreClean g new.log new.db → AreClean g given.log given.db
-both_clean g given new log db clean =
-    let parts = and_parts (g.is_clean new.log) (g.is_clean new.db) clean in
-    let one = log parts.0 in
-    let two = db parts.1 in
-    rw (one, two) refl
-
 module _ {D : Type 0} (g : Ghosts D) (old : Held (FileStore D g)) (it : FileStore D g) where
-  -- a connection over files that hold what the store's may leave finds what a stop left of the
-  -- connection before
+  -- the files of the store after a stop hold what a stop left of the connection before
   pub found_again : IsQuiet view faults recovers is_shielded old.store it → (IsClean (view it) → IsTrue (view it).is_numbered) → (IsClean (view it) → AreDatabases (recovers it))
-      → (given new : Files D) → files it ≡ (given.log, given.db) → (AreClean g new.log new.db → AreClean g given.log given.db)
-      → outcomes g given.log given.db (image_of g new) → FoundAgain g old new
-  found_again quiet numbered sound given new same honest may owner lives seen leaves conn opened clean _ =
-      let finds = opened clean in
-      let sure = subst (λ p. AreClean g p.0 p.1) (sym same) (honest finds.honest) in
+      → (given new : Files D) → (given.log, given.db) ≡ files it → IsAfterStop g given new → FoundAgain g old new
+  found_again quiet numbered sound given new same stop owner lives seen leaves = outlasts g owner lives seen given new stop (λ clean image may.
+      let sure = subst (λ p. AreClean g p.0 p.1) same clean in
       let now : IsClean (view it) = no_doubt _ (clean_is it.pool ∙ sure) in
-      let left = may_leave_is it.pool (image_of g new) sure (subst (λ p. outcomes g p.0 p.1 (image_of g new)) (sym same) may) in
+      let left = may_leave_is it.pool image sure (subst (λ p. outcomes g p.0 p.1 image) same may) in
       let before : HasCleanDisk (file_state old) = omega (arith, quiet.clean, now) in
-      ∥∥₁_map₂ (next_run it (numbered now) (sound now) (image_of g new) left (file_state conn) (record { holds = finds.holds; reads = finds.reads })) (leaves before)
-      (λ trees each. each before _ (quiet.outcomes _ trees))
+      ∥∥₁_map₂ (opens_again it (numbered now) (sound now) image left) (leaves before) (λ found each. (found.0, found.2, each before found.0 (quiet.outcomes found.0 found.1))))
 
--- files that an opening after a stop gives back hold what the stop left of the connection before
-pub given_back : {D : Type 0} (g : Ghosts D) (old : Held (FileStore D g)) (files : Files D) → FoundAgain g old files → (back : Option (Files D))
-    → IfSome back (λ left. (owner : List ℕ) (lives : List Life) (seen : Seen) → FilesHold g files owner lives seen → FilesHold g left owner (and_refused lives) seen)
-    → IfSome back (λ left. (owner : List ℕ) (lives : List Life) (seen : Seen) → LeavesLives (file_state old) owner lives seen → FilesHold g left owner (and_refused lives) seen)
-given_back g old files found None h = tt
-given_back g old files found (Some left) h = λ owner lives seen leaves. h owner lives seen (found owner lives seen (λ _. leaves))
-
--- ---- the files after a stop, where the opening before it was refused
+-- ---- the files after a stop, where the opening before it failed or was refused
 
 still_none : (lives : List Life) → none_by_second lives ≡ true → none_by_second (and_refused lives) ≡ true
 still_none lives none = list_all-append (λ (life : Life). not (is_opened_by_second life)) lives (record { rules = Second; opening = NotOpened; events = [] } ∷ []) ∙ (rw none refl)
+
+-- the same contents, after one more life, which wasn't opened
+pub one_more_life : (image : Image) (owner : List ℕ) (lives : List Life) (seen : Seen) → ImageHolds image owner lives seen → ImageHolds image owner (and_refused lives) seen
+one_more_life image owner lives seen held = ∥∥₁_map held (λ it.
+    let tables = it.2 in
+    (it.0, it.1, (tables.0, ends_refused lives tables.0 tables.1, tables.2, elim tables.3 [ inl now ↦ inl now | inr early ↦ inr (still_none lives early.0, early.1) ])))
 
 -- the tables of the history that was found, of the same version, or of version 2 where it was
 -- version 1

@@ -3,6 +3,7 @@ pub mod Desks
 pub mod Questions
 pub mod Headline
 pub mod Reopening
+pub mod Remains
 pub mod Rows
 pub mod Founding
 pub mod Steps

@@ -3,6 +3,7 @@ use Rattle.std.proofs.Math.Logic.{∥∥₁_map}
 use Rattle.sqlite.specs.Files.{file_state}
 use Rattle.sqlite.specs.State.{HasCleanDisk}
 use Rattle.desk_store.specs.Living.{and_refused}
+use Rattle.desk_store.proofs.FilesLemmas.{IfRefused-weaker, IfUnopened-weaker}
 use Rattle.desk_store.proofs.LivingLemmas.{ends_refused}
 use Rattle.desk_store.proofs.RestartLemmas.{refused_leaves}
 use Rattle.desk_store.proofs.restarting.reopen.Goals as goal
@@ -26,3 +27,9 @@ returns-in-Err-open-clause-again g c owner lives seen holds =
 
 pub returns-in-Err-open-clause-named : goal.returns-in-Err-open-clause-named
 returns-in-Err-open-clause-named g c = c.in-Err-open.ensures.named
+
+pub returns-in-Err-clause-again : goal.returns-in-Err-clause-again
+returns-in-Err-clause-again g c = IfRefused-weaker c.unopened.result _ _ (λ left refused. absurd refused) c.unopened.ensures.unrefused
+
+pub returns-in-Err-clause-unopened : goal.returns-in-Err-clause-unopened
+returns-in-Err-clause-unopened g c = IfUnopened-weaker c.unopened.result _ _ (λ left holds. holds c.args.files c.in-Err.ensures.unharmed) c.unopened.ensures.unopened

@@ -1,0 +1,38 @@
+-- How far an opening came that opened no desk.
+use Rattle.std.specs.Prelude.{Bool, true, false, ⊤}
+use Rattle.sqlite.specs.declared.file.Leftover.{Leftover}
+use Rattle.sqlite.specs.declared.file.Leftover.TheVariants as leftover
+use Rattle.sqlite_disk.specs.declared.Disk.{Ghosts}
+use Rattle.sqlite_disk.specs.declared.Files.{Files}
+use Rattle.desk_store.specs.declared.remains.Remains.{Remains}
+use Rattle.desk_store.specs.declared.remains.Remains.TheVariants.{Refused, Unchecked, Unopened}
+
+-- the files, however far the opening came
+abbrev pub files_in : {D : Type 0} → Remains D → Files D
+files_in (Refused files) = files
+files_in (Unopened files) = files
+files_in (Unchecked files) = files
+
+-- a desk in them was refused
+abbrev pub IsRefused : {D : Type 0} → Remains D → Type 0
+IsRefused (Refused files) = ⊤
+IsRefused (Unopened files) = ⊥
+IsRefused (Unchecked files) = ⊥
+
+-- this holds of the files, if a desk in them was refused
+abbrev pub IfRefused : {D : Type 0} → Remains D → (Files D → Type 0) → Type 0
+IfRefused (Refused files) P = P files
+IfRefused (Unopened files) P = ⊤
+IfRefused (Unchecked files) P = ⊤
+
+-- this holds of the files, if they weren't opened
+abbrev pub IfUnopened : {D : Type 0} → Remains D → (Files D → Type 0) → Type 0
+IfUnopened (Refused files) P = ⊤
+IfUnopened (Unopened files) P = P files
+IfUnopened (Unchecked files) P = ⊤
+
+-- after an opening of files that failed: the kit had a store over them
+abbrev pub has_store : {D : Type 0} {g : Ghosts D} → Leftover D g → Bool
+has_store (leftover.Files files) = false
+has_store (leftover.Unopened files) = false
+has_store (leftover.Store store) = true
