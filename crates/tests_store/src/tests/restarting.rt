@@ -49,9 +49,17 @@ fn a_desk_goes_on_after_its_machine_stopped(rt: HostRuntime) -> Result<(), Fail>
     Ok(())
 }
 
-/// The refusal of files that hold no desk.
+/// The files that are left of files that hold no desk.
+fn left_of<D: Empty>(alloc: Global) -> Option<Files<D>> {
+    match reopen(alloc, empty_files::<D>(alloc), OPTIONS) {
+        Ok(_) => None,
+        Err((_, left)) => Some(left.into_files()),
+    }
+}
+
+/// The refusal of these files.
 fn refusal<D: Empty>(alloc: Global) -> Option<&'static str> {
-    reopened(alloc, empty_files::<D>(alloc)).err()
+    reopened(alloc, left_of::<D>(alloc)?).err()
 }
 
 #[test]
