@@ -4,6 +4,7 @@ use Rattle.std.specs.Prelude.{IfErr, IfOk, OnOk}
 use Rattle.std.specs.Io.KnownBytes.{Keeps}
 use Rattle.std.proofs.KnownBytes.{Keeps-refl}
 use Rattle.sqlite_disk.specs.declared.Disk.{Ghosts}
+use Rattle.sqlite_disk.specs.declared.start.Start as start
 use Rattle.sqlite_store.specs.declared.store.FileStore.{FileStore}
 use Rattle.desk_bytes.specs.declared.refusal.Refusal.{Refusal}
 use Rattle.desk_bytes.specs.declared.refusal.Refusal.TheVariants as refusals
@@ -45,11 +46,11 @@ never_both (Ok outcome) fails usable = absurd fails
 never_both (Err fault) fails usable = absurd (usable fails)
 
 -- once the work is done, a desk was made
-pub made_desk : {D : Type 0} {g : Ghosts D} (owner : List ℕ) (ending : Ending) (desk : Desk (FileStore D g))
-    → IsMade g owner desk → Ends g desk ending → OnOk ending.work (MakesDesk g owner ending)
-made_desk {D} {g} owner ending desk made ended = done ending.work
+pub made_desk : {D S : Type 0} {g : Ghosts D} {first : start.Ghosts S} (owner : List ℕ) (ending : Ending) (desk : Desk (FileStore D g))
+    → IsMade g first owner desk → Ends g desk ending → OnOk ending.work (MakesDesk g first owner ending)
+made_desk {D} {S} {g} {first} owner ending desk made ended = done ending.work
   where
-    done : (work : Result Outcome Fault) → OnOk work (MakesDesk g owner ending)
+    done : (work : Result Outcome Fault) → OnOk work (MakesDesk g first owner ending)
     done (Ok outcome) = record { desk = desk; made = made; ended = ended }
     done (Err fault) = tt
 

@@ -1,2 +1,3 @@
 pub mod EndingLemmas
+mod CommitLemmas
 mod OpeningLemmas

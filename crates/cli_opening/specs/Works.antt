@@ -1,6 +1,7 @@
 -- A subcommand without a desk, and at one.
 use Rattle.std.specs.Prelude.{◌≡◌, ℕ, List, Result}
 use Rattle.sqlite_disk.specs.declared.Disk.{Ghosts}
+use Rattle.sqlite_disk.specs.declared.start.Start as start
 use Rattle.sqlite_store.specs.declared.store.FileStore.{FileStore}
 use Rattle.desk_bytes.specs.declared.refusal.Refusal.{Refusal}
 use Rattle.cli_lines.specs.Endings.{unopened}
@@ -16,10 +17,10 @@ use Rattle.cli_opening.specs.Opening.{IsMade, IsOpened}
 abbrev pub IsUnopened : Ending → Type 0
 IsUnopened ending = (refusal : Refusal) × IsOpeningRefusal refusal × (ending ≡ unopened refusal)
 
--- a desk was opened in files, and there this was done
-pub record AtADesk {D : Type 0} {g : Ghosts D} (did : Desk (FileStore D g) → Type 0) : Type 0 where
+-- the desk in the files that held `first` was opened, and there this was done
+pub record AtADesk {D S : Type 0} {g : Ghosts D} (first : start.Ghosts S) (did : Desk (FileStore D g) → Type 0) : Type 0 where
   pub desk : Desk (FileStore D g)
-  pub opened : IsOpened g desk
+  pub opened : IsOpened g first desk
   pub done : did desk
 
 module _ {D : Type 0} (g : Ghosts D) where
@@ -29,12 +30,13 @@ module _ {D : Type 0} (g : Ghosts D) where
     pub done : did left ending.work
     pub ended : Ends g left ending
 
-  -- a desk was opened in files, and worked on so
+module _ {D S : Type 0} (g : Ghosts D) (first : start.Ghosts S) where
+  -- the desk in the files was opened, and worked on so
   abbrev pub WorksOn : (Desk (FileStore D g) → Desk (FileStore D g) → Result Outcome Fault → Type 0) → Ending → Type 0
-  WorksOn did ending = AtADesk {D = D} {g = g} (λ desk. WorksAt (did desk) ending)
+  WorksOn did ending = AtADesk {D = D} {g = g} first (λ desk. WorksAt g (did desk) ending)
 
-  -- a desk was made in files, with this owner and without calls, and closed
+  -- a desk was made in the files, with this owner and without calls, and closed
   pub record MakesDesk (owner : List ℕ) (ending : Ending) : Type 0 where
     pub desk : Desk (FileStore D g)
-    pub made : IsMade g owner desk
+    pub made : IsMade g first owner desk
     pub ended : Ends g desk ending

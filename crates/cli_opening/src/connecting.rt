@@ -1,7 +1,7 @@
 //! A connection to the file at a path, with room for its pages.
 ghost use Rattle.std.specs.Prelude.{◌≡◌, ◌⊎◌, IfErr, IfOk, IsTrue, false, true};
 ghost use Rattle.cli_opening.specs.Pages.{pages_for};
-ghost use Rattle.sqlite.specs.Files.{file_state};
+ghost use Rattle.sqlite.specs.Files.{IsOpened, file_state};
 ghost use Rattle.sqlite.specs.Start.{FindsIn};
 ghost use Rattle.sqlite.specs.State.{HasCleanDisk};
 ghost use Rattle.sqlite_std_file.specs.File.{IsFresh, file_is_usable};
@@ -93,8 +93,8 @@ fn refusal_of(error: &Error) -> Refusal
 }
 
 /// Opens the database in the file at `path`, or creates it; its log is copied into it first.
-/// `start` names what the two files hold at first, and how a stop is read; no code can read it. It
-/// reads and checks the whole file, and takes memory for the pages of `room`.
+/// `start` names what the two files hold once they are opened and synced, and how a stop is read; no
+/// code can read it. It reads and checks the whole file, and takes memory for the pages of `room`.
 ///
 /// `File`: the file can't be opened or created, isn't a database, or is in use; or the system gives
 /// no random number. `NoMemory`: memory was refused.
@@ -105,6 +105,7 @@ pub fn connect<S: Start>(
     start: S,
 ) -> Result<Connection<FileStore<FileFrom<S>>>, Refusal>
     ensures outside { IfOk result (λ conn. conn.in_transaction ≡ false) }
+    ensures opened { IfOk result (λ conn. HasCleanDisk (file_state conn) → IsOpened conn) }
     ensures found { IfOk result (λ conn. HasCleanDisk (file_state conn)
         → FindsIn (image_at S.Start) (file_state conn)) }
 

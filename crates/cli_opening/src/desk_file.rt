@@ -1,5 +1,5 @@
 //! A desk's file: made, opened and closed. What is proved of it holds whatever the file and its log
-//! held at first: `start` names that (sqlite_disk, `Start`).
+//! held at first: `start` names that (specs/Opening.antt).
 ghost use Rattle.std.specs.Prelude.{◌≡◌, None, IfErr, IfOk, IfSome, IsTrue, OnOk, false, true};
 ghost use Rattle.cli_opening.specs.Closing.{Ends, FailsForGood, IsClosed};
 ghost use Rattle.cli_opening.specs.Faults.{IsClosingRefusal, IsLasting};
@@ -9,6 +9,7 @@ ghost use Rattle.cli_opening.specs.Opening.{FindsOrMakes, IsFoundOrMade, IsMade,
 ghost use Rattle.cli_lines.specs.Faults.{IsFileRefusal, IsRow};
 
 use crate::connecting::{Room, connect};
+use crate::last_commit::last_commit_is_shown;
 use cli_lines::{Ending, Fault, Outcome};
 use desk_bytes::{Guid, Refusal};
 use desk_store::Desk;
@@ -19,6 +20,7 @@ use std::alloc::Global;
 use std::fs::OpenOptions;
 use std::os::unix::fs::OpenOptionsExt;
 use std::{fs, io};
+use store_sql::stop_leaves_what_is_shown;
 
 /// The mode of a desk's file: its user alone may read and write it.
 const PRIVATE: u32 = 0o600;
@@ -85,7 +87,7 @@ fn make_there<S: Start>(
     start: S,
     owner: &Guid,
 ) -> Result<FileDesk<S>, Refusal>
-    ensures made { IfOk result (IsMade ⟦<FileFrom<S> as Disk>⟧ owner.now) }
+    ensures made { IfOk result (IsMade ⟦<FileFrom<S> as Disk>⟧ S.Start owner.now) }
     ensures named { IfErr result IsMakingRefusal }
 {
     match connect(rt, path, Room::AsItIs, start) {
@@ -105,7 +107,7 @@ pub fn make<S: Start>(
     start: S,
     owner: &Guid,
 ) -> Result<FileDesk<S>, Refusal>
-    ensures made { IfOk result (IsMade ⟦<FileFrom<S> as Disk>⟧ owner.now) }
+    ensures made { IfOk result (IsMade ⟦<FileFrom<S> as Disk>⟧ S.Start owner.now) }
     ensures named { IfErr result IsMakingRefusal }
 {
     match make_private(rt, path) {
@@ -120,6 +122,8 @@ fn open_over<S: Alter + Drop>(alloc: Global, conn: Connection<S>) -> Result<Desk
     ensures opened { IfOk result (Opens S.Store conn) }
     ensures named { IfErr result IsOpeningRefusal }
 {
+    last_commit_is_shown(&conn);
+    stop_leaves_what_is_shown(&conn);
     match Desk::open(alloc, conn) {
         Ok(desk) => Ok(desk),
         Err((refusal, conn)) => {
@@ -136,7 +140,7 @@ fn open_there<S: Start>(
     start: S,
     room: Room,
 ) -> Result<FileDesk<S>, Refusal>
-    ensures opened { IfOk result (IsOpened ⟦<FileFrom<S> as Disk>⟧) }
+    ensures opened { IfOk result (IsOpened ⟦<FileFrom<S> as Disk>⟧ S.Start) }
     ensures named { IfErr result IsOpeningRefusal }
 {
     match connect(rt, path, room, start) {
@@ -156,7 +160,7 @@ pub fn open<S: Start>(
     start: S,
     room: Room,
 ) -> Result<FileDesk<S>, Refusal>
-    ensures opened { IfOk result (IsOpened ⟦<FileFrom<S> as Disk>⟧) }
+    ensures opened { IfOk result (IsOpened ⟦<FileFrom<S> as Disk>⟧ S.Start) }
     ensures named { IfErr result IsOpeningRefusal }
 {
     match is_there(rt, path) {
@@ -190,6 +194,8 @@ fn found_or_made<S: Alter + Drop>(
     ensures found { IfOk result (FindsOrMakes S.Store conn owner.now) }
     ensures named { IfErr result IsFindingRefusal }
 {
+    last_commit_is_shown(&conn);
+    stop_leaves_what_is_shown(&conn);
     match Desk::open(alloc, conn) {
         Ok(desk) => Ok(desk),
         Err((refusal, conn)) => {
@@ -212,7 +218,7 @@ fn found_there<S: Start>(
     start: S,
     owner: &Guid,
 ) -> Result<FileDesk<S>, Refusal>
-    ensures found { IfOk result (IsFoundOrMade ⟦<FileFrom<S> as Disk>⟧ owner.now) }
+    ensures found { IfOk result (IsFoundOrMade ⟦<FileFrom<S> as Disk>⟧ S.Start owner.now) }
     ensures named { IfErr result IsFindingRefusal }
 {
     match connect(rt, path, Room::ToGrow, start) {
@@ -235,7 +241,7 @@ pub fn open_or_make<S: Start>(
     start: S,
     owner: &Guid,
 ) -> Result<FileDesk<S>, Refusal>
-    ensures found { IfOk result (IsFoundOrMade ⟦<FileFrom<S> as Disk>⟧ owner.now) }
+    ensures found { IfOk result (IsFoundOrMade ⟦<FileFrom<S> as Disk>⟧ S.Start owner.now) }
     ensures named { IfErr result IsFindingRefusal }
 {
     match make_private(rt, path) {

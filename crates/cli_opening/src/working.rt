@@ -90,7 +90,8 @@ pub fn on_desk<S: Start, W: Work>(
     output: &mut W::Output,
 ) -> Ending
     ensures did { (IsUnopened result × (output.new ≡ output.old))
-        ⊎ WorksOn ⟦<FileFrom<S> as Disk>⟧ (W.Work.does _ over_files work output.old output.new) result }
+        ⊎ WorksOn ⟦<FileFrom<S> as Disk>⟧ S.Start
+        (W.Work.does _ over_files work output.old output.new) result }
     ensures left { IfOk result.work (W.Work.leaves output.new) }
     ensures named { IfErr result.work (λ fault.
         IsRow IsOpeningRefusal fault ⊎ W.Work.stops fault) }
@@ -114,7 +115,7 @@ pub fn on_desk<S: Start, W: Work>(
 pub fn make_desk<S: Start>(rt: &HostRuntime, path: &str, start: S, owner: &Guid) -> Ending
     ensures done { IfOk result.work (λ outcome. outcome ≡ Outcome.Done) }
     ensures named { IfErr result.work (IsRow IsMakingRefusal) }
-    ensures made { OnOk result.work (MakesDesk ⟦<FileFrom<S> as Disk>⟧ owner.now result) }
+    ensures made { OnOk result.work (MakesDesk ⟦<FileFrom<S> as Disk>⟧ S.Start owner.now result) }
     ensures first { OnErr result.work (result.closing ≡ None) }
     ensures closing { IfSome result.closing (IsRow IsClosingRefusal) }
 {

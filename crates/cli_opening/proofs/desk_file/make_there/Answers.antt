@@ -6,7 +6,9 @@ pub make_over-requires : goal.make_over-requires
 make_over-requires g c = c.in-Ok.ensures.outside
 
 pub returns-in-Ok-clause-made : goal.returns-in-Ok-clause-made
-returns-in-Ok-clause-made g c = made_in_files c.in-Ok.conn c.args.owner.now c.make_over.result c.make_over.ensures.made
+returns-in-Ok-clause-made g c =
+    made_in_files g.S.Start c.in-Ok.conn (record { outside = c.in-Ok.ensures.outside; opened = c.in-Ok.ensures.opened; found = c.in-Ok.ensures.found })
+    c.args.owner.now c.make_over.result c.make_over.ensures.made
 
 pub returns-in-Ok-clause-named : goal.returns-in-Ok-clause-named
 returns-in-Ok-clause-named g c = c.make_over.ensures.named

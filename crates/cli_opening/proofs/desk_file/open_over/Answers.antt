@@ -1,12 +1,16 @@
-use Rattle.std.proofs.Common.{inr}
+use Rattle.std.proofs.Common.{arith, inr}
+use Rattle.cli_opening.proofs.CommitLemmas.{found_of_commit}
 use Rattle.cli_opening.proofs.desk_file.open_over.Goals as goal
 
 pub returns-in-Ok-clause-opened : goal.returns-in-Ok-clause-opened
 returns-in-Ok-clause-opened g c = record {
   shows = c.in-Ok.ensures.ok;
   migrated = c.in-Ok.ensures.migrated;
+  found = λ clean. found_of_commit g.S.Store c.args.conn c.in-Ok.desk c.last_commit_is_shown.ensures.second c.last_commit_is_shown.ensures.first
+      c.stop_leaves_what_is_shown.ensures (c.in-Ok.ensures.ok clean) (c.in-Ok.ensures.migrated clean);
   lives = c.in-Ok.ensures.lives;
   spares = c.in-Ok.ensures.spares;
+  clean = λ clean. omega (arith, c.in-Ok.ensures.stopped.clean, clean);
 }
 
 pub returns-in-Err-clause-named : goal.returns-in-Err-clause-named
