@@ -90,7 +90,7 @@ pub fn answer_from<S: Start, R: Read + Drop, W: Write>(
     writer: &mut W,
 ) -> Ending
     ensures answered { (IsUnopened result × Keeps (W.contents writer.old) (W.contents writer.new))
-        ⊎ AtADesk (AnswersOnce ⟦<FileFrom<S> as Disk>⟧ (R.remaining reader)
+        ⊎ AtADesk S.Start (AnswersOnce ⟦<FileFrom<S> as Disk>⟧ (R.remaining reader)
         (W.contents writer.old) (W.contents writer.new) result) }
     ensures done { IfOk result.work (λ outcome. outcome ≡ Outcome.Done) }
     ensures named { IfErr result.work (IsRow (λ refusal.
@@ -168,7 +168,8 @@ impl<'a> Work for Connections<'a> {
 /// opened, or no connection could be accepted. Store, Reopen: that response was written, and the
 /// desk must be opened again.
 pub fn serve_from<S: Start>(rt: &HostRuntime, path: &str, start: S, port: u16, count: u32) -> Ending
-    ensures served { IsUnopened result ⊎ AtADesk (Serves ⟦<FileFrom<S> as Disk>⟧ count result) }
+    ensures served { IsUnopened result
+        ⊎ AtADesk S.Start (Serves ⟦<FileFrom<S> as Disk>⟧ count result) }
     ensures done { IfOk result.work (λ outcome. outcome ≡ Outcome.Done) }
     ensures named { IfErr result.work (IsRow (λ refusal.
         IsOpeningRefusal refusal ⊎ IsServingRefusal refusal)) }
