@@ -60,7 +60,7 @@ pub fn foretell_from<S: Start, W: Buffered>(
     writer: &mut W,
 ) -> Ending
     ensures foretold { (IsUnopened result × Keeps (W.contents writer.old) (W.contents writer.new))
-        ⊎ AtADesk (WritesImpact ⟦<FileFrom<S> as Disk>⟧ number
+        ⊎ AtADesk S.Start (WritesImpact ⟦<FileFrom<S> as Disk>⟧ number
         (W.contents writer.old) (W.contents writer.new) result) }
     ensures flushed { OnOk result.work (W.flushed writer.new) }
     ensures named { IfErr result.work (IsRow (λ refusal.

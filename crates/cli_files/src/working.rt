@@ -80,7 +80,7 @@ pub fn add_person<S: Start, W: Buffered>(
     writer: &mut W,
 ) -> Ending
     ensures added { (IsUnopened result × Keeps (W.contents writer.old) (W.contents writer.new))
-        ⊎ AtADesk (Calls ⟦<FileFrom<S> as Disk>⟧ (adding key.now person)
+        ⊎ AtADesk S.Start (Calls ⟦<FileFrom<S> as Disk>⟧ (adding key.now person)
         (W.contents writer.old) (W.contents writer.new) result) }
     ensures done { IfOk result.work (λ outcome. outcome ≡ Outcome.Done) }
     ensures flushed { OnOk result.work (W.flushed writer.new) }
@@ -180,7 +180,7 @@ pub fn judge_image<S: Start, W: Buffered>(
     writer: &mut W,
 ) -> Ending
     ensures judged { (IsUnopened result × Keeps (W.contents writer.old) (W.contents writer.new))
-        ⊎ AtADesk (Judges ⟦<FileFrom<S> as Disk>⟧
+        ⊎ AtADesk S.Start (Judges ⟦<FileFrom<S> as Disk>⟧
         (W.contents writer.old) (W.contents writer.new) result) }
     ensures flushed { OnOk result.work (W.flushed writer.new) }
     ensures named { IfErr result.work (λ fault.
@@ -237,7 +237,7 @@ pub fn export_from<S: Start, W: Buffered>(
     writer: &mut W,
 ) -> Ending
     ensures exported { (IsUnopened result × Keeps (W.contents writer.old) (W.contents writer.new))
-        ⊎ AtADesk (Exports ⟦<FileFrom<S> as Disk>⟧ what
+        ⊎ AtADesk S.Start (Exports ⟦<FileFrom<S> as Disk>⟧ what
         (W.contents writer.old) (W.contents writer.new) result) }
     ensures done { IfOk result.work (λ outcome. outcome ≡ Outcome.Done) }
     ensures flushed { OnOk result.work (W.flushed writer.new) }
