@@ -2,6 +2,7 @@
 use Rattle.std.proofs.Common.{◌≡◌, ◌⊎◌, ℕ, List, Option, Result, Ok, Err, inl, inr, refl, sym, ap, subst, ◌∙◌, arith}
 use Rattle.std.specs.Prelude.{IfErr}
 use Rattle.sqlite_disk.specs.declared.Disk.{Ghosts}
+use Rattle.sqlite_disk.specs.declared.start.Start as start
 use Rattle.sqlite_store.specs.declared.store.FileStore.{FileStore}
 use Rattle.desk_bytes.specs.declared.refusal.Refusal.{Refusal}
 use Rattle.desk_bytes.specs.declared.refusal.Refusal.TheVariants as refusals
@@ -99,10 +100,10 @@ module _ {D : Type 0} {g : Ghosts D} (owner : List ℕ) (given before after : Op
 
 -- ---- the desk of a reader with a buffer
 
-pub at_desk : {D : Type 0} {g : Ghosts D} (owner : List ℕ) (held given before after : Option (List ℕ)) (watch : LineWatch) (ending : Ending) (desk : Desk (FileStore D g))
-    → held ≡ given → IsFoundOrMade g owner desk → Follows g owner held before after watch ending desk
-    → AtFoundOrMade {D = D} {g = g} owner (Follows g owner given before after watch ending)
-at_desk {D} {g} owner held given before after watch ending desk same found did = record {
+pub at_desk : {D S : Type 0} {g : Ghosts D} {first : start.Ghosts S} (owner : List ℕ) (held given before after : Option (List ℕ)) (watch : LineWatch) (ending : Ending) (desk : Desk (FileStore D g))
+    → held ≡ given → IsFoundOrMade g first owner desk → Follows g owner held before after watch ending desk
+    → AtFoundOrMade {D = D} {g = g} first owner (Follows g owner given before after watch ending)
+at_desk {D} {S} {g} {first} owner held given before after watch ending desk same found did = record {
   desk = desk;
   found = found;
   done = subst (λ (known : Option (List ℕ)). Follows g owner known before after watch ending desk) same did;

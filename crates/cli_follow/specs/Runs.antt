@@ -6,6 +6,7 @@ use Rattle.sqlite.specs.Held.{Held, state}
 use Rattle.sqlite.specs.State.{HasCleanDisk}
 use Rattle.sqlite.specs.Store as store
 use Rattle.sqlite_disk.specs.declared.Disk.{Ghosts}
+use Rattle.sqlite_disk.specs.declared.start.Start as start
 use Rattle.sqlite_store.specs.declared.store.FileStore.{FileStore}
 use Rattle.desk_bytes.specs.Output.{AppendsBeginning}
 use Rattle.desk_bytes.specs.declared.refusal.Refusal.{Refusal}
@@ -78,10 +79,11 @@ module _ {S : Type 0} (g : store.Ghosts S) where
 abbrev pub IsUnfound : Ending → Type 0
 IsUnfound ending = (refusal : Refusal) × IsFindingRefusal refusal × (ending ≡ unopened refusal)
 
--- a desk was found in files, or made there with this owner, and there this was done
-pub record AtFoundOrMade {D : Type 0} {g : Ghosts D} (owner : List ℕ) (did : Desk (FileStore D g) → Type 0) : Type 0 where
+-- the desk in the files that held `first` was found, or made there with this owner, and there this
+-- was done
+pub record AtFoundOrMade {D S : Type 0} {g : Ghosts D} (first : start.Ghosts S) (owner : List ℕ) (did : Desk (FileStore D g) → Type 0) : Type 0 where
   pub desk : Desk (FileStore D g)
-  pub found : IsFoundOrMade g owner desk
+  pub found : IsFoundOrMade g first owner desk
   pub done : did desk
 
 module _ {D : Type 0} (g : Ghosts D) where

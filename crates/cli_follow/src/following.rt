@@ -150,7 +150,8 @@ pub fn follow_input<S: Start, R: Read + Drop, W: Buffered>(
     writer: &mut W,
 ) -> Ending
     ensures followed { (IsUnfound result × (watch.new ≡ watch.old) × (writer.new ≡ writer.old))
-        ⊎ AtFoundOrMade owner.now (Follows ⟦<FileFrom<S> as Disk>⟧ owner.now (R.remaining reader)
+        ⊎ AtFoundOrMade S.Start owner.now (Follows ⟦<FileFrom<S> as Disk>⟧ owner.now
+        (R.remaining reader)
         (W.contents writer.old) (W.contents writer.new) watch.new result) }
     ensures done { IfOk result.work (λ outcome. outcome ≡ Outcome.Done) }
     ensures flushed { OnOk result.work (W.flushed writer.new) }
