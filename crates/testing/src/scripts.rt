@@ -1,6 +1,6 @@
 //! Calls and questions of a desk, read from the words of a script's lines. For tests.
 
-mod largest;
+mod importing;
 mod word;
 
 pub use word::Words;

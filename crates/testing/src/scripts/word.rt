@@ -1,5 +1,5 @@
 //! The words of a line, and their values.
-use crate::scripts::largest;
+use crate::scripts::importing;
 use desk_bytes::Digest;
 use desk_texts::{
     Ballot, Call, Caller, Carried, Certificate, Command, Digests, Facts, Import,
@@ -165,7 +165,7 @@ impl<'a> Words<'a> {
 
     fn large_import(&mut self) -> Option<Command> {
         let count = self.text()?.parse::<u16>().ok()?;
-        largest::import(self.alloc, count)
+        importing::import(self.alloc, count)
     }
 
     /// The command of a verb, by the words after it.
@@ -173,13 +173,11 @@ impl<'a> Words<'a> {
         match verb {
             "add" => self.person(),
             "submit" => self.submission(),
-            "submit-largest" => largest::submission(self.alloc),
             "yes" => self.ballot(Vote::Yes),
             "no" => self.ballot(Vote::No),
             "withdraw" => Some(Command::Withdraw(self.request()?)),
             "return" => self.returned_file(),
             "list-certificate" => self.certificate(),
-            "list-largest" => largest::listing(self.alloc),
             "list" => Some(Command::ListDigest(self.digest()?)),
             "unlist-certificate" => self.unlisting(ListedKind::Certificate),
             "unlist" => self.unlisting(ListedKind::Digest),
