@@ -6,9 +6,10 @@
 # made; and likewise each write. After a failed read there is no response, and the desk's file is
 # unchanged. After a failed write a prefix of the response was sent, and an accepted command stays:
 # its key gets the whole response, and changes nothing more. A fault of a connection ends only that
-# connection; a failed accept ends the server. Likewise each write of each export, of a desk with 300
-# revoked digests: a prefix was written, and the desk's file is unchanged. Not part of `rt ci`: it
-# needs python3, and a C compiler for reads and writes that fail (fail.c).
+# connection; a failed accept ends the server. Each write of each export fails too, of a desk with 300
+# revoked digests: it is Write, a prefix or all of the export was written, and the desk's file is
+# unchanged. Not part of `rt ci`: it needs python3, and a C compiler for reads and writes that fail
+# (fail.c).
 set -eu
 . "$(dirname -- "$(readlink -f -- "$0")")/common.sh"
 needs cc python3

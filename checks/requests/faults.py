@@ -152,7 +152,7 @@ def by_serve(program, base, before, it):
 
 
 def exports(program, base):
-    """Each write of an export fails: a prefix of it was written, and the desk stays. How many failed."""
+    """Each write of an export fails: that is told, a prefix of it or all was written, and the desk stays. How many failed."""
     desk, failed = program.copied(base, "exports.db"), 0
     body = digest_list([f"{number:064x}" for number in range(300)])
     for it in (lists("olga", "k1", digest("aa")), proposes("olga", "k2", "/imports/dbx", body, 1), confirms("otto", "k1", 1, 300, 0, 0, 0)):
@@ -165,7 +165,8 @@ def exports(program, base):
             if (ran.returncode, ran.stdout, ran.stderr) == (0, whole, b""):
                 break
             expect((ran.returncode, ran.stderr), (3, WRITE), f"{name}, write {number} fails")
-            if not whole.startswith(ran.stdout) or len(ran.stdout) > (number - 1) * PART:
+            # (what the output still holds is written once more as the program ends)
+            if not whole.startswith(ran.stdout):
                 fail(f"{name}, write {number} fails: {ran.stdout[-300:]!r}")
         if number <= len(whole) // PART:
             fail(f"{name}: {number - 1} writes failed")
