@@ -10,9 +10,9 @@ use Rattle.memory_disk.proofs.CleanLemmas.{memory_is_clean}
 use Rattle.memory_disk.specs.Disks.{MemoryStore, over_memory}
 use Rattle.desk_audit.specs.Audits.{HasFollowed, IsWrongAt}
 use Rattle.desk_audit.specs.Faults.{IsCausedInMemory}
-use Rattle.desk_audit.specs.declared.lines.LineWatch.{LineWatch}
-use Rattle.desk_audit.specs.declared.auditing.AuditFault.{AuditFault}
-use Rattle.desk_audit.specs.declared.auditing.AuditFault.TheVariants.{Device, Line}
+use Rattle.desk_lines.specs.declared.lines.LineWatch.{LineWatch}
+use Rattle.desk_lines.specs.declared.auditing.AuditFault.{AuditFault}
+use Rattle.desk_lines.specs.declared.auditing.AuditFault.TheVariants.{Device, Line}
 use Rattle.desk_bytes.specs.Output.{AppendsBeginning}
 use Rattle.desk_bytes.specs.declared.refusal.Refusal.{Refusal}
 use Rattle.desk_bytes.specs.declared.refusal.Refusal.TheVariants as refusals

@@ -16,7 +16,7 @@ use Rattle.desk_store.specs.Exports.{Writes, WritesBeginning}
 use Rattle.desk_store.specs.declared.desk.Desk.{Desk}
 use Rattle.desk_audit.specs.Audits.{HasFollowed, IsWrongAt}
 use Rattle.cli_lines.specs.declared.fault.Fault.{Fault}
-use Rattle.desk_audit.specs.declared.lines.LineWatch.{LineWatch}
+use Rattle.desk_lines.specs.declared.lines.LineWatch.{LineWatch}
 use Rattle.cli_audit.specs.Faults.{IsAuditRow, wrong_line}
 use Rattle.cli_audit.specs.Lines.{audit_lines}
 

@@ -1,9 +1,9 @@
 -- The rows of the table of refusals for an audit.
 use Rattle.std.specs.Prelude.{◌≡◌, ◌⊎◌, ℕ, Some}
-use Rattle.desk_audit.specs.declared.auditing.AuditFault.{AuditFault}
-use Rattle.desk_audit.specs.declared.auditing.AuditFault.TheVariants.{Device, Line}
-use Rattle.desk_audit.specs.Watches.{IsReadFault}
-use Rattle.desk_audit.specs.declared.lines.LineWatch.{LineWatch}
+use Rattle.desk_lines.specs.declared.auditing.AuditFault.{AuditFault}
+use Rattle.desk_lines.specs.declared.auditing.AuditFault.TheVariants.{Device, Line}
+use Rattle.desk_lines.specs.Watches.{IsReadFault}
+use Rattle.desk_lines.specs.declared.lines.LineWatch.{LineWatch}
 use Rattle.desk_bytes.specs.declared.refusal.Refusal.{Refusal}
 use Rattle.desk_bytes.specs.declared.refusal.Refusal.TheVariants as refusals
 use Rattle.cli_lines.specs.Faults.{IsFileRefusal, IsRow, row_of}

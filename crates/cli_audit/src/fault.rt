@@ -1,13 +1,14 @@
 //! The rows of the table of refusals for an audit.
 ghost use Rattle.std.specs.Prelude.{◌≡◌};
-ghost use Rattle.desk_audit.specs.declared.lines.LineWatch.{LineWatch};
+ghost use Rattle.desk_lines.specs.declared.lines.LineWatch.{LineWatch};
 ghost use Rattle.cli_commands.specs.Faults.{IsWritingRefusal};
 ghost use Rattle.cli_lines.specs.Faults.{IsRow};
 ghost use Rattle.cli_audit.specs.Faults.{IsAuditRefusal, of_audit};
 
 use cli_lines::Fault;
-use desk_audit::{AuditFault, in_memory};
+use desk_audit::in_memory;
 use desk_bytes::Refusal;
+use desk_lines::AuditFault;
 
 /// The row for minutes that aren't those of a desk, or aren't followed.
 pub fn row(fault: AuditFault) -> Fault

@@ -12,7 +12,7 @@ mod summary;
 mod writing;
 
 pub use auditing::{audit_file, audit_input};
-pub use desk_audit::LineWatch;
+pub use desk_lines::LineWatch;
 pub use fault::row;
 pub use running::run_audit;
 pub use writing::say_told;

@@ -13,12 +13,12 @@ use Rattle.store_schema.specs.rows.Histories.{LeavesHistory}
 use Rattle.desk_store.specs.Desks.{ForEachShown, KeepsDesk}
 use Rattle.desk_store.specs.Exports.{Writes, WritesBeginning}
 use Rattle.desk_store.specs.declared.desk.Desk.{Desk}
-use Rattle.desk_audit.specs.Faults.{IsCaused, IsDeskFailure}
-use Rattle.desk_audit.specs.Starts.{Start}
-use Rattle.desk_audit.specs.Watches.{IsReadFault}
-use Rattle.desk_audit.specs.declared.auditing.AuditFault.{AuditFault}
-use Rattle.desk_audit.specs.declared.auditing.AuditFault.TheVariants.{Device, Line}
-use Rattle.desk_audit.specs.declared.lines.LineWatch.{LineWatch}
+use Rattle.desk_lines.specs.Faults.{IsCaused, IsDeskFailure}
+use Rattle.desk_lines.specs.Starts.{Start}
+use Rattle.desk_lines.specs.Watches.{IsReadFault}
+use Rattle.desk_lines.specs.declared.auditing.AuditFault.{AuditFault}
+use Rattle.desk_lines.specs.declared.auditing.AuditFault.TheVariants.{Device, Line}
+use Rattle.desk_lines.specs.declared.lines.LineWatch.{LineWatch}
 use Rattle.desk_follow.specs.Runs.{HasRun, IsWrongLine, LeavesRun}
 use Rattle.cli_lines.specs.Faults.{IsRow, row_of}
 use Rattle.cli_lines.specs.declared.ending.Outcome.{Outcome}

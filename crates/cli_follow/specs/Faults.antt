@@ -2,9 +2,9 @@
 use Rattle.std.specs.Prelude.{◌≡◌, ◌⊎◌, ℕ}
 use Rattle.desk_bytes.specs.declared.refusal.Refusal.{Refusal}
 use Rattle.desk_bytes.specs.declared.refusal.Refusal.TheVariants as refusals
-use Rattle.desk_audit.specs.Faults.{IsDeskFailure}
-use Rattle.desk_audit.specs.Watches.{IsReadFault}
-use Rattle.desk_audit.specs.declared.lines.LineWatch.{LineWatch}
+use Rattle.desk_lines.specs.Faults.{IsDeskFailure}
+use Rattle.desk_lines.specs.Watches.{IsReadFault}
+use Rattle.desk_lines.specs.declared.lines.LineWatch.{LineWatch}
 use Rattle.cli_audit.specs.Faults.{wrong_line}
 use Rattle.cli_lines.specs.Faults.{IsRow}
 use Rattle.cli_lines.specs.declared.fault.Fault.{Fault}

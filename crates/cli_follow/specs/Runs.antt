@@ -15,9 +15,9 @@ use Rattle.store_schema.specs.rows.Histories.{LeavesHistory}
 use Rattle.desk_store.specs.Desks.{ForEachShown, KeepsDesk}
 use Rattle.desk_store.specs.Exports.{Writes, WritesBeginning}
 use Rattle.desk_store.specs.declared.desk.Desk.{Desk}
-use Rattle.desk_audit.specs.Starts.{HasFollowedAfter, Start}
-use Rattle.desk_audit.specs.declared.lines.LineWatch.{LineWatch}
-use Rattle.desk_follow.specs.Comparing.{Begins}
+use Rattle.desk_lines.specs.Starts.{HasFollowedAfter, Start}
+use Rattle.desk_lines.specs.declared.lines.LineWatch.{LineWatch}
+use Rattle.desk_lines.specs.Comparing.{Begins}
 use Rattle.desk_follow.specs.Runs.{HasRun, IsAhead, IsWrongLine, LeavesRun}
 use Rattle.cli_lines.specs.Endings.{unopened}
 use Rattle.cli_lines.specs.Faults.{IsRow, row_of}

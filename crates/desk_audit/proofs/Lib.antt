@@ -1,3 +1,2 @@
-mod LineLemmas
-pub mod FollowingLemmas
-pub mod AuditLemmas
+mod AuditLemmas
+mod BeginningLemmas

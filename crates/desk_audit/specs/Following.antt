@@ -1,37 +1,18 @@
--- A desk that follows minutes: its history's minutes are the lines that it was given.
-use Rattle.std.specs.Prelude.{◌≡◌, ◌≢◌, ◌⊎◌, ◌+◌, ℕ, List, ◌∷◌, length, false, true}
+-- A desk that follows minutes by the first rules, and the lines that only the second give.
+use Rattle.std.specs.Prelude.{◌≡◌, ◌⊎◌, ◌+◌, ℕ, List, length, true}
 use Rattle.sqlite.specs.Held.{state}
 use Rattle.sqlite.specs.Store.{Ghosts}
-use Rattle.desk_texts.specs.Formed.{IsCall}
 use Rattle.desk_texts.specs.declared.command.Call.{Call}
 use Rattle.desk_texts.specs.declared.reply.Reply.{Reply}
-use Rattle.desk_history.specs.Calls.{First, History, Rules, Second, under}
-use Rattle.desk_history.specs.Replies.{minute_of}
-use Rattle.desk_history.specs.Runs.{answer, is_accepted, joins}
-use Rattle.desk_history.specs.declared.answer.Answer.TheVariants.{Accepted}
-use Rattle.desk_exports.specs.Exports.{minute_line}
+use Rattle.desk_history.specs.Calls.{First, History}
 use Rattle.desk_minutes.specs.Follows.{HasNoNext}
 use Rattle.desk_minutes.specs.Lines.{IsTold, line_with}
 use Rattle.desk_minutes.specs.Minuted.{is_of_second}
 use Rattle.store_schema.specs.rows.Histories.{HoldsHistory}
 use Rattle.store_sql.specs.States.{Leaves}
-use Rattle.desk_store.specs.Desks.{ForEachShown, ShowsDesk}
-use Rattle.desk_store.specs.declared.desk.Desk.{Desk}
 use Rattle.desk_first.specs.Desks.{ShowsFirstDesk}
 use Rattle.desk_first.specs.declared.desk.FirstDesk.{FirstDesk}
-
--- The line is that of a call that these rules accept next, and the history with this call is shown.
-pub record GoesOn (rules : Rules) (shown : History → Type 0) (cs : History) (line : List ℕ) : Type 0 where
-  pub call : Call
-  pub formed : IsCall call
-  pub accepted : joins cs (under rules call) ≡ true
-  pub is : line ≡ minute_line (minute_of cs (under rules call))
-  pub shows : shown (under rules call ∷ cs)
-
--- no call that these rules accept next has this line
-abbrev pub HasNoneBy : Rules → History → List ℕ → Type 0
-HasNoneBy rules cs line =
-    (c : Call) → IsCall c → joins cs (under rules c) ≡ true → line ≢ minute_line (minute_of cs (under rules c))
+use Rattle.desk_lines.specs.Following.{GoesOn}
 
 -- The line of this number tells a reply that only the second rules give.
 pub record TellsSecond (number : ℕ) (line : List ℕ) : Type 0 where
@@ -42,37 +23,14 @@ pub record TellsSecond (number : ℕ) (line : List ℕ) : Type 0 where
   pub second : is_of_second reply ≡ true
 
 module _ {S : Type 0} (g : Ghosts S) where
-  -- the call would be accepted with this reply
-  abbrev pub IsDue : Desk S → Call → Reply → Type 0
-  IsDue desk c reply = ForEachShown g desk (λ owner cs. answer cs c ≡ Accepted reply)
-
-  -- the call isn't accepted
-  abbrev pub AcceptsNot : Desk S → Call → Type 0
-  AcceptsNot desk c = ForEachShown g desk (λ owner cs. is_accepted (answer cs c) ≡ false)
-
-  -- as the line of this number, so does each history that the desk shows
-  abbrev pub GoesOnWith : Desk S → Desk S → ℕ → List ℕ → Type 0
-  GoesOnWith old new number line =
-      ForEachShown g old (λ owner cs. number ≡ length cs + 1 → GoesOn Second (ShowsDesk g new owner) cs line)
-
-  -- As the line of this number, it may be followed: a stop leaves the history before it, or the one
-  -- with its call.
-  abbrev pub MayStopOnLine : Desk S → Desk S → ℕ → List ℕ → Type 0
-  MayStopOnLine old new number line =
-      ForEachShown g old (λ owner cs. number ≡ length cs + 1
-      → Leaves (state g new.conn) (λ db. HoldsHistory db owner cs ⊎ GoesOn Second (HoldsHistory db owner) cs line))
-
-  -- as the line of this number, it is that of no call that the second rules accept next
-  abbrev pub EndsBefore : Desk S → ℕ → List ℕ → Type 0
-  EndsBefore desk number line = ForEachShown g desk (λ owner cs. number ≡ length cs + 1 → HasNoneBy Second cs line)
-
-  -- the same by the first rules
+  -- each history that the desk shows goes on with the line of this number, by the first rules
   abbrev pub GoesOnByFirst : FirstDesk S → FirstDesk S → ℕ → List ℕ → Type 0
   GoesOnByFirst old new number line =
       (owner : List ℕ) (cs : History) → ShowsFirstDesk g old owner cs → number ≡ length cs + 1
       → GoesOn First (ShowsFirstDesk g new owner) cs line
 
-  -- it may be followed by the first rules
+  -- As the line of this number, it may be followed by the first rules: a stop leaves the history
+  -- before it, or the one with its call.
   abbrev pub MayStopOnFirst : FirstDesk S → FirstDesk S → ℕ → List ℕ → Type 0
   MayStopOnFirst old new number line =
       (owner : List ℕ) (cs : History) → ShowsFirstDesk g old owner cs → number ≡ length cs + 1

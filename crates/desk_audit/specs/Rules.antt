@@ -1,17 +1,15 @@
 -- Minutes whose first lines are by the first rules, and whose others are by the second.
-use Rattle.std.specs.Prelude.{◌≡◌, ◌+◌, ℕ, List, length, Option, Some, false, true}
-use Rattle.std.specs.List.{list_all}
+use Rattle.std.specs.Prelude.{◌≡◌, ◌+◌, ℕ, List, length, Option, Some}
 use Rattle.std.specs.Io.KnownBytes.{Consumes, IsAtEnd}
 use Rattle.sqlite.specs.Store.{Ghosts}
-use Rattle.desk_history.specs.Calls.{GoesOnFrom, History, is_first}
+use Rattle.desk_history.specs.Calls.{GoesOnFrom, History}
 use Rattle.desk_exports.specs.Exports.{minutes_text}
-use Rattle.desk_minutes.specs.Minuted.{as_minuted, shows_second}
 use Rattle.desk_store.specs.declared.desk.Desk.{Desk}
 use Rattle.desk_first.specs.Desks.{ShowsFirstDesk}
 use Rattle.desk_first.specs.declared.desk.FirstDesk.{FirstDesk}
+use Rattle.desk_lines.specs.Lines.{TakesLine}
+use Rattle.desk_lines.specs.Starts.{HasFollowedAfter, Start}
 use Rattle.desk_audit.specs.Following.{TellsSecond}
-use Rattle.desk_audit.specs.Lines.{TakesLine}
-use Rattle.desk_audit.specs.Starts.{HasFollowedAfter, Start}
 use Rattle.desk_audit.specs.declared.auditing.FirstEnd.{FirstEnd}
 use Rattle.desk_audit.specs.declared.auditing.FirstEnd.TheVariants.{All, Before}
 
@@ -23,13 +21,6 @@ pub record HasFollowedFirst {S : Type 0} (g : Ghosts S) (desk : FirstDesk S) (s 
   pub goes_on : GoesOnFrom s.earlier history
   pub count : length history ≡ calls
   pub given : Consumes (Some s.bytes) left (minutes_text history)
-
--- The desk has followed minutes, and some call of its history was accepted by the second rules. If
--- the earlier history was as its minutes tell it, only these rules give some line.
-pub record HasFollowedSecond {S : Type 0} (g : Ghosts S) (desk : Desk S) (s : Start) (calls : ℕ) (left : Option (List ℕ)) : Type 0 where
-  pub followed : HasFollowedAfter g desk s calls left
-  pub past : list_all is_first followed.history ≡ false
-  pub second : as_minuted s.earlier ≡ s.earlier → shows_second followed.history ≡ true
 
 -- The reader gave the line of this number, the next after so many, which only the second rules give.
 pub record TakesSecond (number : ℕ) (line : List ℕ) (calls : ℕ) (old new : Option (List ℕ)) : Type 0 where

@@ -3,13 +3,13 @@ ghost use Rattle.std.specs.Prelude.{◌≡◌, IfErr, IfOk, IsErrOf};
 ghost use Rattle.sqlite.specs.Held.{state};
 ghost use Rattle.sqlite.specs.State.{HasCleanDisk};
 ghost use Rattle.desk_minutes.specs.Minuted.{is_of_second};
-ghost use Rattle.desk_audit.specs.Faults.{IsFollowFault};
+ghost use Rattle.desk_lines.specs.Faults.{IsFollowFault};
 ghost use Rattle.desk_first.specs.Desks.{KeepsFirst};
 ghost use Rattle.desk_audit.specs.Following.{EndsBeforeBoth, GoesOnByFirst, MayStopOnFirst};
 ghost use Rattle.desk_audit.specs.Following.{TellsSecond};
 
-use crate::following::{FollowFault, read_line};
 use desk_first::FirstDesk;
+use desk_lines::{FollowFault, read_line};
 use desk_texts::Reply;
 use sqlite::Alter;
 use std::alloc::Global;

@@ -7,14 +7,14 @@ ghost use Rattle.store_reads.specs.Failures.{IsFailure};
 ghost use Rattle.store_sql.specs.States.{Spares};
 ghost use Rattle.desk_store.specs.Desks.{ShowsDesk};
 ghost use Rattle.desk_first.specs.Desks.{ShowsFirstDesk};
-ghost use Rattle.desk_audit.specs.Faults.{IsCaused};
-ghost use Rattle.desk_audit.specs.Starts.{HasFollowedAfter, IsWrongAfter, LeavesFollowed, Start};
+ghost use Rattle.desk_lines.specs.Faults.{IsCaused};
+ghost use Rattle.desk_lines.specs.Starts.{HasFollowedAfter, IsWrongAfter, LeavesFollowed, Start};
 ghost use Rattle.desk_audit.specs.Rules.{HasBegun, HasFollowedFirst};
 
-use crate::auditing::{AuditFault, FirstEnd, follow_beginning, follow_on};
-use crate::lines::LineWatch;
+use crate::auditing::{FirstEnd, follow_beginning, follow_on};
 use desk_bytes::Refusal;
 use desk_first::FirstDesk;
+use desk_lines::{AuditFault, LineWatch};
 use desk_store::Desk;
 use sqlite::{Alter, Connection};
 use std::alloc::Global;

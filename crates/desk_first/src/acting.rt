@@ -9,10 +9,10 @@ ghost use Rattle.store_sql.specs.States.{CommitsNothing, DoesInside, Spares, Sta
 ghost use Rattle.desk_first.specs.Acts.{ActsFirst, LeavesFollowed, RunsFirst};
 
 use crate::deciding::accepted;
-use crate::replies::is_same_reply;
 use crate::viewing::first_view;
 use crate::writing::write_first;
 use desk_bytes::Refusal;
+use desk_minutes::is_same_reply;
 use desk_rules::CallRef;
 use desk_texts::Reply;
 use sqlite::{Alter, Connection, Transaction};

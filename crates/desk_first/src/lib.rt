@@ -6,9 +6,7 @@ mod acting;
 mod deciding;
 mod desk;
 mod past;
-mod replies;
 mod viewing;
 mod writing;
 
 pub use desk::{FirstDesk, Resumed};
-pub use replies::is_same_reply;

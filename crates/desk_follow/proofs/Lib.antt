@@ -1,4 +1,3 @@
-pub mod ComparingLemmas
 mod EventLemmas
 mod LivingLemmas
 mod RestartLemmas

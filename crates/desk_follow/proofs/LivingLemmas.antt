@@ -16,7 +16,7 @@ use Rattle.store_schema.specs.rows.Histories.{HoldsHistory}
 use Rattle.desk_store.specs.Desks.{ShowsDesk}
 use Rattle.desk_store.specs.Headline.{IsRecovered, IsSince, Seen}
 use Rattle.desk_store.specs.declared.desk.Desk.{Desk}
-use Rattle.desk_audit.specs.Starts.{BeginsWith, Start}
+use Rattle.desk_lines.specs.Starts.{BeginsWith, Start}
 use Rattle.desk_follow.specs.Living.{HoldsRunLives, IsFollowed, IsRecoveredAfterRun, LeadsTo, LivesOnAfterRun, RecoversRuns, RunsBegin, RunsLiveOn, RunsMayStop, WrongRunsLiveOn, lives_with, seen_with}
 use Rattle.desk_follow.specs.Runs.{HoldsRun}
 use Rattle.desk_follow.specs.Series.{events_after}

@@ -12,12 +12,13 @@ use Rattle.desk_store.specs.Desks.{ShowsDesk}
 use Rattle.desk_store.specs.declared.desk.Desk.{Desk}
 use Rattle.desk_first.specs.Desks.{ShowsFirstDesk}
 use Rattle.desk_first.specs.declared.desk.FirstDesk.{FirstDesk}
-use Rattle.desk_audit.specs.Rules.{HasFollowedFirst, HasFollowedSecond}
-use Rattle.desk_audit.specs.Starts.{HasFollowedAfter, IsWrongAfter, LeavesFollowed, Start}
-use Rattle.desk_audit.specs.declared.auditing.AuditFault.{AuditFault}
-use Rattle.desk_audit.specs.declared.auditing.AuditFault.TheVariants as audits
+use Rattle.desk_audit.specs.Rules.{HasFollowedFirst}
+use Rattle.desk_lines.specs.Starts.{HasFollowedSecond}
+use Rattle.desk_lines.specs.Starts.{HasFollowedAfter, IsWrongAfter, LeavesFollowed, Start}
+use Rattle.desk_lines.specs.declared.auditing.AuditFault.{AuditFault}
+use Rattle.desk_lines.specs.declared.auditing.AuditFault.TheVariants as audits
 use Rattle.desk_bytes.specs.declared.refusal.Refusal.{Refusal}
-use Rattle.desk_follow.specs.Comparing.{HasAll}
+use Rattle.desk_lines.specs.Comparing.{HasAll}
 use Rattle.desk_follow.specs.Runs.{HasRun, IsWrongLine, LeavesRun}
 
 none_right : (a b : Bool) → (a || b) ≡ false → b ≡ false

@@ -1,4 +1,3 @@
-pub mod Comparing
 pub mod Living
 pub mod Restarting
 pub mod Runs

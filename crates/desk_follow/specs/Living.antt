@@ -12,7 +12,7 @@ use Rattle.store_sql.specs.States.{Leaves}
 use Rattle.desk_store.specs.Headline.{IsRecovered, IsSince, Recovers, Seen}
 use Rattle.desk_store.specs.Living.{LivesOn, and_now}
 use Rattle.desk_store.specs.declared.desk.Desk.{Desk}
-use Rattle.desk_audit.specs.Starts.{BeginsWith, Start}
+use Rattle.desk_lines.specs.Starts.{BeginsWith, Start}
 use Rattle.desk_follow.specs.Runs.{HasRun, HoldsRun, IsWrongLine, LeavesRun}
 use Rattle.desk_follow.specs.Series.{and_run, and_run_since, events_after}
 

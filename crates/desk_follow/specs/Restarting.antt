@@ -5,7 +5,7 @@ use Rattle.sqlite.specs.State.{HasCleanDisk}
 use Rattle.sqlite_disk.specs.declared.Disk as disk
 use Rattle.sqlite_disk.specs.declared.Files.{Files}
 use Rattle.sqlite_store.specs.declared.store.FileStore.{FileStore}
-use Rattle.desk_audit.specs.Starts.{Start}
+use Rattle.desk_lines.specs.Starts.{Start}
 use Rattle.desk_follow.specs.Living.{FindsRun}
 use Rattle.desk_follow.specs.Runs.{LeavesRun}
 

@@ -7,8 +7,8 @@ use Rattle.store_schema.specs.rows.Histories.{HoldsHistory}
 use Rattle.store_sql.specs.States.{Leaves, Spares}
 use Rattle.desk_store.specs.Desks.{ShowsDesk}
 use Rattle.desk_store.specs.declared.desk.Desk.{Desk}
-use Rattle.desk_audit.specs.Starts.{HasFollowedAfter, HoldsFollowed, IsWrongAfter, Start}
-use Rattle.desk_follow.specs.Comparing.{DiffersAt, IsBeginning}
+use Rattle.desk_lines.specs.Starts.{HasFollowedAfter, HoldsFollowed, IsWrongAfter, Start}
+use Rattle.desk_lines.specs.Comparing.{DiffersAt, IsBeginning}
 
 -- the trees hold the earlier history, or one that goes on from it and whose minutes are a beginning of
 -- the bytes

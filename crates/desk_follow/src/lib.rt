@@ -2,12 +2,12 @@
 //! followed.
 #![tactic(auto)]
 
-mod comparing;
 mod living;
 mod restarting;
 mod running;
 
-pub use desk_audit::{AuditFault, Followed, LineWatch};
+pub use desk_audit::Followed;
+pub use desk_lines::{AuditFault, LineWatch};
 pub use living::{openings_recover_runs, refused_runs_make_lives, runs_make_lives};
 pub use restarting::restart_after_run;
 pub use running::{follow, has_owner};

@@ -5,7 +5,7 @@ ghost use Rattle.sqlite.specs.State.{HasCleanDisk};
 ghost use Rattle.desk_history.specs.Formed.{IsItem};
 ghost use Rattle.desk_history.specs.Lives.{Life, events_of};
 ghost use Rattle.desk_store.specs.Headline.{Seen};
-ghost use Rattle.desk_audit.specs.Starts.{Start};
+ghost use Rattle.desk_lines.specs.Starts.{Start};
 ghost use Rattle.desk_follow.specs.Living.{IsRecoveredAfterRun, LeadsTo};
 ghost use Rattle.desk_follow.specs.Restarting.{RunIsFoundAgain};
 ghost use Rattle.desk_follow.specs.Runs.{LeavesRun};

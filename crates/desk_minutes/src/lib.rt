@@ -4,6 +4,8 @@
 mod fields;
 mod laws;
 mod reading;
+mod replies;
 
 pub use laws::{lines_differ, minutes_tell_exports, minutes_tell_history};
 pub use reading::{MinuteRead, read_minute};
+pub use replies::is_same_reply;

@@ -4,11 +4,13 @@ use Rattle.sqlite.specs.State.{HasCleanDisk}
 use Rattle.desk_history.specs.Calls.{First}
 use Rattle.desk_minutes.specs.Follows.{HasNoNext}
 use Rattle.desk_first.specs.Desks.{ShowsFirstDesk}
-use Rattle.desk_audit.specs.Following.{GoesOn, TellsSecond}
+use Rattle.desk_lines.specs.Following.{GoesOn}
+use Rattle.desk_audit.specs.Following.{TellsSecond}
 use Rattle.desk_audit.specs.Rules.{HasFollowedFirst}
-use Rattle.desk_audit.specs.Starts.{IsWrongAfter, LeavesFollowed}
-use Rattle.desk_audit.proofs.AuditLemmas.{first_goes_on, first_left, first_wrong, leaves_next}
-use Rattle.desk_audit.proofs.LineLemmas.{no_refusal}
+use Rattle.desk_lines.specs.Starts.{IsWrongAfter, LeavesFollowed}
+use Rattle.desk_audit.proofs.AuditLemmas.{first_goes_on, first_left, first_wrong}
+use Rattle.desk_lines.proofs.StartLemmas.{leaves_next}
+use Rattle.desk_lines.proofs.LineLemmas.{no_refusal}
 use Rattle.desk_audit.proofs.auditing.follow_beginning.Goals as goal
 
 -- the reader is at its end, or failed

@@ -2,7 +2,7 @@ use Rattle.std.proofs.Common.{◌≡◌, ◌-◌, ◌^◌}
 use Rattle.sqlite.specs.Held.{state}
 use Rattle.sqlite.specs.State.{HasCleanDisk}
 use Rattle.desk_audit.specs.Rules.{HasFollowedFirst}
-use Rattle.desk_audit.specs.Starts.{Start}
+use Rattle.desk_lines.specs.Starts.{Start}
 use Rattle.desk_audit.proofs.auditing.follow_beginning.Given as goal
 
 abbrev pub invariant-loop-calls : goal.invariant-loop-calls

@@ -2,10 +2,11 @@ use Rattle.std.proofs.Common.{Err, ap, sym, subst}
 use Rattle.sqlite.specs.Held.{state}
 use Rattle.sqlite.specs.State.{HasCleanDisk}
 use Rattle.desk_store.specs.Desks.{ShowsDesk}
-use Rattle.desk_audit.specs.Following.{EndsBefore, GoesOnWith}
+use Rattle.desk_lines.specs.Following.{EndsBefore, GoesOnWith}
 use Rattle.desk_audit.specs.Rules.{HasTurned}
-use Rattle.desk_audit.specs.Starts.{IsWrongAfter}
-use Rattle.desk_audit.proofs.AuditLemmas.{ended, second_left, turn_left, turn_wrong, turns}
+use Rattle.desk_lines.specs.Starts.{IsWrongAfter}
+use Rattle.desk_lines.proofs.StartLemmas.{ended, second_left}
+use Rattle.desk_audit.proofs.AuditLemmas.{turn_left, turn_wrong, turns}
 use Rattle.desk_audit.proofs.auditing.follow_on.Goals as goal
 
 -- all lines were by the first rules

@@ -2,7 +2,8 @@ use Rattle.std.proofs.Common.{Err, ap, inl, refl, sym, ◌∙◌}
 use Rattle.desk_history.specs.Calls.{First, under}
 use Rattle.desk_minutes.proofs.LineLemmas.{fault_is}
 use Rattle.store_schema.specs.rows.Histories.{HoldsHistory}
-use Rattle.desk_audit.proofs.FollowingLemmas.{accepted_with, either_first, may_join, none_first, none_read, only_by, read_is}
+use Rattle.desk_audit.proofs.BeginningLemmas.{accepted_with, either_first, none_first}
+use Rattle.desk_lines.proofs.FollowingLemmas.{may_join, none_read, only_by, read_is}
 use Rattle.desk_audit.proofs.beginning.follow_first.Goals as goal
 
 -- a line that isn't read

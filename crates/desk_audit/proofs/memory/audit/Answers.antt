@@ -4,10 +4,10 @@ use Rattle.memory_disk.proofs.CleanLemmas.{memory_is_clean}
 use Rattle.memory_disk.specs.Disks.{over_memory}
 use Rattle.desk_store.specs.Desks.{ShowsDesk}
 use Rattle.desk_audit.specs.Audits.{HasFollowed, IsWrongAt}
-use Rattle.desk_audit.specs.Faults.{IsCaused}
+use Rattle.desk_lines.specs.Faults.{IsCaused}
 use Rattle.desk_audit.specs.Rules.{HasFollowedFirst}
-use Rattle.desk_audit.specs.Starts.{HasFollowedAfter, IsWrongAfter, Start}
-use Rattle.desk_audit.specs.declared.auditing.AuditFault.TheVariants.{Device, Line}
+use Rattle.desk_lines.specs.Starts.{HasFollowedAfter, IsWrongAfter, Start}
+use Rattle.desk_lines.specs.declared.auditing.AuditFault.TheVariants.{Device, Line}
 use Rattle.desk_audit.proofs.AuditLemmas.{audited, begins, known_so, none_wrong, same_fault, wrong_at}
 use Rattle.desk_audit.proofs.memory.audit.Goals as goal
 

@@ -4,8 +4,8 @@ use Rattle.sqlite.specs.State.{HasCleanDisk}
 use Rattle.desk_store.specs.Desks.{ShowsDesk}
 use Rattle.desk_first.specs.Desks.{ShowsFirstDesk}
 use Rattle.desk_audit.proofs.AuditLemmas.{same_number, shown_so, wrong_left}
-use Rattle.desk_audit.proofs.FollowingLemmas.{still_leaves}
-use Rattle.desk_audit.specs.Starts.{HoldsFollowed, IsWrongAfter, LeavesFollowed}
+use Rattle.desk_lines.proofs.FollowingLemmas.{still_leaves}
+use Rattle.desk_lines.specs.Starts.{HoldsFollowed, IsWrongAfter, LeavesFollowed}
 use Rattle.desk_audit.proofs.turning.follow_from_first.Goals as goal
 
 -- the lines by the first rules were followed

@@ -2,8 +2,8 @@ use Rattle.std.proofs.Common.{◌≡◌}
 use Rattle.sqlite.specs.Held.{state}
 use Rattle.sqlite.specs.State.{HasCleanDisk}
 use Rattle.desk_audit.proofs.AuditLemmas.{begun_left, begun_shown, handed_over}
-use Rattle.desk_audit.proofs.FollowingLemmas.{still_leaves}
-use Rattle.desk_audit.specs.Starts.{HoldsFollowed}
+use Rattle.desk_lines.proofs.FollowingLemmas.{still_leaves}
+use Rattle.desk_lines.specs.Starts.{HoldsFollowed}
 use Rattle.desk_audit.proofs.turning.turned.Goals as goal
 
 pub returns-in-Err-clause-failed : goal.returns-in-Err-clause-failed

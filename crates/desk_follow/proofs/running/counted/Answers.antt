@@ -1,7 +1,6 @@
 use Rattle.desk_bytes.specs.declared.refusal.Refusal.TheVariants as refusals
 use Rattle.std.proofs.Common.{◌≡◌, sym}
-use Rattle.desk_audit.proofs.FollowingLemmas.{desk_failed}
-use Rattle.desk_follow.proofs.ComparingLemmas.{no_store}
+use Rattle.desk_lines.proofs.FollowingLemmas.{desk_failed, no_store}
 use Rattle.desk_follow.proofs.running.counted.Goals as goal
 
 pub returns-in-Ok-clause-exact : goal.returns-in-Ok-clause-exact

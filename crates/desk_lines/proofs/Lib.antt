@@ -1,0 +1,4 @@
+mod ComparingLemmas
+pub mod FollowingLemmas
+pub mod LineLemmas
+pub mod StartLemmas
