@@ -42,13 +42,15 @@ needs cc python3
 find_program "$@"
 [ $# -eq 0 ] || shift
 enter_room
+# What a disk keeps is modelled, so the desks are in memory, where there is such a place.
+[ ! -w /dev/shm ] || memory=/dev/shm
 for library in stop fail; do cc -shared -fPIC -O1 -o "$room/$library.so" "$root/checks/$library.c" -ldl; done
 
 # stops PROGRAM [CASE [WAY NUMBER]]
 stops() {
     desk=$1
     shift
-    within 1000 python3 -B "$root/checks/requests/stops.py" "$desk" "$room/stop.so" "$room/fail.so" "$root" "$@"
+    TMPDIR=${memory-${TMPDIR:-/tmp}} within 1000 python3 -B "$root/checks/requests/stops.py" "$desk" "$room/stop.so" "$room/fail.so" "$root" "$@"
 }
 
 stops "$program" "$@"

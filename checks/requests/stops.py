@@ -49,8 +49,8 @@ class Files(NamedTuple):
 
 
 class Ran(NamedTuple):
-    """A run of the program: its end, what it answered, the calls that count, how many had been made with each answer, and its files: with all
-    that was written, and with what was synced."""
+    """A run of the program: its end, what it answered, the calls that count, how many were seen when each answer was there, and its files:
+    with all that was written, and with what was synced."""
 
     status: int
     answers: list[bytes]
@@ -282,6 +282,10 @@ class Barred(NamedTuple):
     digest: bytes
 
 
+# The tables of which a desk refused an image.
+JUDGED: set[tuple[str, Barred]] = set()
+
+
 class Case:
     """Calls to the desk in these files, and its tables before and after each of them, without a stop."""
 
@@ -333,8 +337,9 @@ class Case:
         return ran
 
     def bars(self, what: str) -> None:
-        """The desk that was just closed refuses the image."""
-        if self.barred:
+        """The desk that was just closed refuses the image. One with the same tables isn't asked again."""
+        tables = place().tables()
+        if self.barred and (tables, self.barred) not in JUDGED:
             files = place().left()
             try:
                 verdict = place().gives(files, ("verdict", DESK, self.barred.image), status=1)
@@ -343,6 +348,7 @@ class Case:
                 raise Broken(f"{what}: {it}") from None
             if verdict != self.barred.line or self.barred.digest not in dbx:
                 raise Broken(f"{what}: the verdict is {verdict!r}, and dbx {dbx.hex()}")
+            JUDGED.add((tables, self.barred))
 
     def opened(self, left: Files, what: str) -> tuple[int, Files]:
         """How many of the calls are in the desk that opens in these files. Each then has its answer, and the tables are those of all once."""
