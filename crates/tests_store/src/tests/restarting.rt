@@ -51,7 +51,11 @@ fn a_desk_goes_on_after_its_machine_stopped(rt: HostRuntime) -> Result<(), Fail>
 
 /// The files that are left of files that hold no desk.
 fn left_of<D: Empty>(alloc: Global) -> Option<Files<D>> {
-    match reopen(alloc, empty_files::<D>(alloc), OPTIONS) {
+    let files = empty_files::<D>(alloc);
+    if !files.may_be_used() {
+        return None;
+    }
+    match reopen(alloc, files, OPTIONS) {
         Ok(_) => None,
         Err((_, left)) => Some(left.into_files()),
     }
