@@ -16,9 +16,12 @@ enter_room
 python=$(python3 -c 'import sys; print(sys.executable)')
 refused=0
 
-# stands_in CALL NUMBER: `front` answers as this body would.
+# stands_in CALL NUMBER: `front` answers as this body would. Python doesn't begin on a folder.
 stands_in() {
-    printf '#!/bin/sh\nexec "%s" -B "%s" "%s" "%s" %s "$@"\n' "$python" "$root/checks/requests/wrong_answers.py" "$program" "$1" "$2" > front
+    {
+        printf '#!/bin/sh\n[ ! -d /dev/stdin ] || exec "%s" "$@"\n' "$program"
+        printf 'exec "%s" -B "%s" "%s" "%s" %s "$@"\n' "$python" "$root/checks/requests/wrong_answers.py" "$program" "$1" "$2"
+    } > front
     chmod +x front
 }
 
