@@ -44,7 +44,7 @@ fails_at facts 40 'desk facts ' runs.sh
 fails_at carried 40 "desk facts $root/examples/signed.efi" runs.sh
 fails_at open '40 41' 'desk person desk.db ann ' day.sh
 fails_at apply '40 41' 'desk person desk.db ann ' day.sh
-for export in db dbx shim level minutes; do fails_at "$export" '40 41' "desk $export desk.db" day.sh; done
+for export in db dbx shim level minutes; do fails_at "$export" '40 41' "desk $export " day.sh; done
 fails_at verdict '40 41' 'desk verdict desk.db ' day.sh
 fails_at verdict '40 41' 'levels, request ' requests.sh levels
 fails_at 'apply of a request' '40 41' 'two proposals, request 1 over serve' requests.sh 'two proposals'
