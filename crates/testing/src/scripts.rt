@@ -1,6 +1,5 @@
 //! Calls and questions of a desk, read from the words of a script's lines. For tests.
 
-mod importing;
 mod word;
 
 pub use word::Words;

@@ -1,5 +1,4 @@
 //! The words of a line, and their values.
-use crate::scripts::importing;
 use desk_bytes::Digest;
 use desk_texts::{
     Ballot, Call, Caller, Carried, Certificate, Command, Digests, Facts, Import,
@@ -163,11 +162,6 @@ impl<'a> Words<'a> {
         Some(Command::ImportRevocations(import))
     }
 
-    fn large_import(&mut self) -> Option<Command> {
-        let count = self.text()?.parse::<u16>().ok()?;
-        importing::import(self.alloc, count)
-    }
-
     /// The command of a verb, by the words after it.
     pub fn command(&mut self, verb: &str) -> Option<Command> {
         match verb {
@@ -185,7 +179,6 @@ impl<'a> Words<'a> {
             "revoke" => Some(Command::RevokeDigest(self.digest()?)),
             "raise" => self.raise(),
             "import" => self.import(),
-            "import-digests" => self.large_import(),
             "confirm" => Some(Command::Confirm(self.proposal()?)),
             "drop" => Some(Command::Drop(self.proposal()?)),
             _ => None,
