@@ -1,7 +1,7 @@
 #!/bin/sh
 # The built program, or the named one, beside a plain model of the desk: model.sh [PROGRAM [SEED]]. The
 # model, checks/requests/model.py, is Python, written from the documents and the definitions, and
-# shares no code with the desk. A walk of some 2,000 requests that a seed gives goes to one `desk
+# shares no code with the desk. A walk of some 2,300 requests that a seed gives goes to one `desk
 # serve` after another: each command is accepted, repeated and refused for each of its refusals but
 # Full, and what people are shown is read; more than 300 proposals of all kinds, and impacts over more
 # than 300 requests whose images share certificates, digests and components. Each response is compared
