@@ -168,8 +168,9 @@ def exports(program, base):
             # (what the output still holds is written once more as the program ends)
             if not whole.startswith(ran.stdout):
                 fail(f"{name}, write {number} fails: {ran.stdout[-300:]!r}")
-        if number <= len(whole) // PART:
-            fail(f"{name}: {number - 1} writes failed")
+        least = -(-len(whole) // PART)
+        if number <= least:
+            fail(f"{name}: {number - 1} writes failed in place of {least} or more")
         failed += number - 1
     expect(contents(desk), before, "the desk's file after the exports")
     return failed
