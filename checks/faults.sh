@@ -3,8 +3,8 @@
 # [PROGRAM]. A verdict, an impact, the minutes, a submission with its image, a Confirm, and a review
 # that is refused, each by `desk answer` and over `desk serve`, whose reads and writes take a few
 # bytes each: the first read fails, in another run the second, and so on up to the first that isn't
-# made; and likewise each write. After a failed read there is no response, and the desk's file is
-# unchanged. After a failed write a prefix of the response was sent, and an accepted command stays:
+# made; and likewise each write. After a failed read there is no response, and the desk has the calls
+# of before. After a failed write a prefix of the response was sent, and an accepted command stays:
 # its key gets the whole response, and changes nothing more. A fault of a connection ends only that
 # connection; a failed accept ends the server. Each write of each export fails too, of a desk with 300
 # revoked digests: it is Write, a prefix or all of the export was written, and the desk's file is

@@ -95,6 +95,8 @@ def by_answer(program, base, before, it):
             break
         expect(ran, (3, b"", READ), what)
         expect(contents(desk), found, f"{what}: the desk's file")
+        # (a call may also stand in the log alone)
+        minutes_more(program, desk, before, 0, what)
         expect(again(desk), it.due, f"{what}: the request again")
         counts.reads += 1
     least = len(it.given) // it.piece
@@ -118,11 +120,14 @@ def by_serve(program, base, before, it):
     counts = Counts()
 
     def first(number, kind, what):
-        """What the first connection is answered, and whether the request is answered on the next one too; the desk's file."""
+        """What the first connection is answered. Behind it a command stays, unless a read failed; the next connection answers the request,
+        and the command is there once."""
         desk = program.copied(base, f"{it.name} served.db")
         env = {"LD_PRELOAD": LIBRARY, "PIECE": str(it.piece), "SOCKET": "1", kind: str(number)}
         with Server(program, desk, 2, env=env) as server:
             found = server.ask(it.given)
+            is_kept = it.accepted and (kind == "WRITE" or found == it.due)
+            minutes_more(program, program.copied(desk, f"{it.name} left.db"), before, int(is_kept), f"{what}, right behind it")
             expect(server.ask(it.given), it.due, f"{what}: the request again")
             server.ended()
         minutes_more(program, desk, before, int(it.accepted), what)
