@@ -225,6 +225,16 @@ NO_MEMORY = refused(40)
 # ---- the program
 
 
+def copy_of(desk, path):
+    """The path, at which a copy of a desk's file and of its log is put."""
+    for ending in ("", "-wal"):
+        if os.path.exists(path + ending):
+            os.remove(path + ending)
+        if os.path.exists(desk + ending):
+            shutil.copyfile(desk + ending, path + ending)
+    return path
+
+
 class Program:
     """The program, and a folder of its own, which is gone at the end."""
 
@@ -270,13 +280,7 @@ class Program:
 
     def copied(self, desk, name):
         """A copy of a desk's files."""
-        path = self.at(name)
-        for end in ("", "-wal"):
-            if os.path.exists(path + end):
-                os.remove(path + end)
-            if os.path.exists(desk + end):
-                shutil.copyfile(desk + end, path + end)
-        return path
+        return copy_of(desk, self.at(name))
 
     def minutes(self, desk):
         return self.gives("minutes", desk)
@@ -379,8 +383,9 @@ class Server:
 
 
 def dump(desk):
-    """Every row of every table of a desk that was closed, so that its file alone has them, as sqlite3's shell reads them."""
-    ran = subprocess.run(["sqlite3", f"file:{desk}?immutable=1", ".dump"], capture_output=True, timeout=120, check=False)
+    """Every row of every table of a desk that nobody has open, as sqlite3's shell reads a copy of its file and of its log: a run that ends
+    with a fault of the store may leave one."""
+    ran = subprocess.run(["sqlite3", copy_of(desk, f"{desk}.dumped"), ".dump"], capture_output=True, timeout=120, check=False)
     if ran.returncode or ran.stderr:
         fail(f"sqlite3 {desk}: {ran.stderr!r}")
     return ran.stdout
