@@ -486,8 +486,9 @@ PARTS = (
     full_of_certificates, full_of_names, full_of_people,
 )
 with Program(sys.argv[1]) as program:
-    base = program.founded("base.db")
-    chosen = [it for it in PARTS if not sys.argv[2:] or it.__name__ in sys.argv[2:]]
+    parts, base = {it.__name__: it for it in PARTS}, program.founded("base.db")
+    # (a name that is none's ends the check)
+    chosen = [parts[name] for name in sys.argv[2:] or parts]
     with ThreadPoolExecutor(len(os.sched_getaffinity(0))) as pool:
         counts = [pool.submit(part, program, program.copied(base, f"{part.__name__}.db")) for part in chosen]
         print(f"{sum(it.result() for it in counts)} answers of {len(chosen)} kinds at the limits, each as it has to be")
