@@ -74,7 +74,10 @@ def exchange(*words, **more):
 def worked(method, path, name, key=None, body=b"", wanted=b""):
     """One answer for an officer: its wait is taken, and what it acknowledges is kept."""
     began = time.monotonic()
-    status, text = exchange(method, path, name, key, body)
+    try:
+        status, text = exchange(method, path, name, key, body)
+    except Exception as fault:
+        status, text = repr(fault), b""
     waits.append(time.monotonic() - began)
     if " 200 " not in status or not text.startswith(wanted):
         faults.append(f"{method} {path} of {name}: {status} {text[:80]!r}")
@@ -84,8 +87,9 @@ def worked(method, path, name, key=None, body=b"", wanted=b""):
 
 
 def officers():
+    """They go on working up to the first fault."""
     number = 0
-    while not ended.is_set():
+    while not ended.is_set() and not faults:
         number += 1
         digest = f"{number:064x}".encode()
         worked("POST", "/dbx/digests", "olga", f"p{number}", b'{"digest":"' + digest + b'"}', b'{"proposal":')
