@@ -257,10 +257,7 @@ listing(6000)
 print("\n".join(lines))
 EOF
 python3 kill.py "$program" "$owner" long 200 > killed || fail "$(cat killed)"
-run 0 "$(
-    told standby.db long
-    "$program" audit "$owner" long > audit
-    echo audit
-)" '' none follow killed.db "$owner" long
+"$program" audit "$owner" long > audit
+run 0 audit '' none follow killed.db "$owner" long
 "$program" minutes killed.db | cmp - long
 echo "$runs runs of follow; $(cat killed)"
