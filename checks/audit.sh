@@ -88,7 +88,7 @@ wrong() {
 line=0
 while [ "$line" -lt "$lines" ]; do
     line=$((line + 1))
-    # (the last character of a reply, the key, the number)
+    # (the last character of a reply, the number)
     sed "${line}s/.\$/~/" minutes > turned
     wrong "$line"
     sed "${line}s/^[0-9]*/99/" minutes > turned
