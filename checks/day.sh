@@ -17,9 +17,7 @@ signed=$root/examples/signed.efi
 enter_room
 
 # exported FILE EXPORT DB: the export of the desk must be this file.
-exported() {
-    case " $exports " in *" $2 "*) run 0 "$1" '' nothing "$2" "$3" ;; esac
-}
+exported() { run 0 "$1" '' nothing "$2" "$3"; }
 
 # says TEXT FILE: the file has this text.
 says() { printf '%s\n' "$1" > "$2"; }
@@ -161,9 +159,7 @@ full() {
     [ "$got" -eq 3 ] && [ "$(cat err)" = 'device 17 Write' ] || fail "desk $*, to a full device: status $got, $(cat err)"
     runs=$((runs + 1))
 }
-for export in level minutes; do
-    case " $exports " in *" $export "*) full "$export" desk.db ;; esac
-done
+for export in level minutes; do full "$export" desk.db; done
 full verdict desk.db "$signed"
 full person empty.db ann submitter k1 < ann
 run 0 added '' ann person empty.db ann submitter k1
@@ -484,7 +480,7 @@ done
 sqlite3 first.db 'DROP TABLE proposals; DROP TABLE proposal_items; DROP TABLE migrated; UPDATE desk SET version = 1; VACUUM'
 cp first.db taken.db
 run 1 not_listed '' nothing verdict first.db "$signed"
-[ "$(sqlite3 first.db 'SELECT version, id, calls FROM desk, migrated USING (id)')" = '2|1|7' ]
+[ "$(sqlite3 first.db 'SELECT version, id, calls FROM desk, migrated USING (id)')" = '2|1|7' ] || fail 'its first opening makes no version 2'
 cp first.db opened.db
 exported first.minutes minutes first.db
 exported first.level level first.db
