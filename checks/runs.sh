@@ -1,9 +1,10 @@
 #!/bin/sh
 # Runs each subcommand of the built program, or of the named one, on the examples and on wrong words
 # and files, and compares every byte of both outputs and the status: runs.sh [PROGRAM]. Not part of
-# `rt ci`.
+# `rt ci`: it needs xxd.
 set -eu
 . "$(dirname -- "$(readlink -f -- "$0")")/common.sh"
+needs xxd
 find_program "$@"
 owner=00112233-4455-6677-8899-aabbccddeeff
 enter_room
