@@ -96,11 +96,16 @@ def goes_on(part: Part, between: Between) -> None:
     """Without --once it goes on, through a desk that doesn't answer; a second one beside it ends."""
     raul, ann = part.people["raul"], part.people["ann"]
     told(raul)
+    before = len(between.seen)
     watching = raul.start("watch", "--every", "0", "--retries", "0")
-    end = threading.Timer(60, watching.kill)
+    end = threading.Timer(120, watching.kill)
     end.start()
     try:
-        time.sleep(1)
+        # (it has locked its memory before it asks for the requests)
+        while not any(head.startswith(b"GET /requests ") for head in between.seen[before:]):
+            if watching.poll() is not None:
+                fail(f"watch that goes on: it ended with {watching.returncode}")
+            time.sleep(0.02)
         raul.ends(2, "watch", "--once", err=["another watch of yours is under way"])
         between.shows["/requests"] = answer(502, b"")
         assert watching.stderr
