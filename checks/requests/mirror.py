@@ -149,8 +149,8 @@ def works(server: Server, work: Work, begun: threading.Event, over: threading.Ev
             expect(server.ask(step.given, ends=False), step.due, f"call {number}")
             if number == BEFORE:
                 begun.set()
-    except SystemExit as fault:
-        faults.append(str(fault))
+    except (Exception, SystemExit) as fault:
+        faults.append(str(fault) or repr(fault))
     begun.set()
     over.set()
 
