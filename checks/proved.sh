@@ -7,8 +7,9 @@
 #
 # Fails if a row names a call that its crate doesn't offer, or a clause that the call doesn't have; if docs/print.py would leave out a
 # public clause, a comment or an SQL text; if a word that a README's list of what a contract sees begins with is in no source of a crate;
-# if a page cites an item that docs/DECISIONS.md doesn't have; or if docs/TESTS.md names a test, a script or a day that isn't there, or
-# leaves out a script. The last line is `N rows, M missing`.
+# if a page cites an item that docs/DECISIONS.md doesn't have; if docs/TESTS.md names a test, a script or a day that isn't there, or
+# leaves out a script; if neither all.sh runs a script nor that page has it among those that are run by hand; or if one of these finds
+# nothing to look at. The last line is `N rows, M missing`.
 set -u
 . "$(dirname -- "$(readlink -f -- "$0")")/common.sh"
 needs python3
@@ -23,6 +24,11 @@ def say(text):
     global missing
     missing += 1
     print(text)
+
+def some(before, what):
+    """Says so where there are no more rows than before: a heading or a form has changed, and nothing is looked at."""
+    if rows == before:
+        say(f'no {what} is found')
 
 def table(path, begins):
     """The rows of the tables of a page that begin so: the number of the line, the cells."""
@@ -51,6 +57,8 @@ for number, cells in table('docs/PROVED.md', '| Call | Clause'):
             if name and clause not in ensured:
                 say(f'docs/PROVED.md:{number}: {call} has no clause {clause or "without a name"}')
 
+some(0, 'row of docs/PROVED.md')
+
 # docs/print.py prints each clause, definition and SQL text, with the comment that stands in the source.
 rows += sum(map(len, offered.values()))
 for it in lacking():
@@ -59,6 +67,7 @@ for it in lacking():
 # crates/*/README.md: what a contract sees is there.
 sources = ''.join(open(path, encoding='utf-8').read() for path in glob.glob('crates/*/s*/**/*.*t*', recursive=True) if os.path.isfile(path))
 known = set(re.findall(r'[A-Za-z_][A-Za-z_0-9]*', sources))
+before = rows
 for path in sorted(glob.glob('crates/*/README.md')):
     seen = open(path, encoding='utf-8').read().partition('\n## What a contract sees\n')[2].partition('\n## ')[0]
     for entry in re.findall(r'^- (.*?)(?::\s|\Z)', seen, re.M | re.S):
@@ -67,6 +76,7 @@ for path in sorted(glob.glob('crates/*/README.md')):
             for name in re.findall(r'[A-Za-z_][A-Za-z_0-9]*', word):
                 if name not in known:
                     say(f'{path}: no source has {name}')
+some(before, 'word of what a contract sees')
 
 # Each item that a page cites, or an item cites, stands in docs/DECISIONS.md, or in its table of those that moved.
 decisions = open('docs/DECISIONS.md', encoding='utf-8').read()
@@ -88,23 +98,33 @@ for path, number in sorted(cited):
 # after requests.sh one of its days. It names each script of checks/.
 page = open('docs/TESTS.md', encoding='utf-8').read()
 days = open('checks/requests/days.py', encoding='utf-8').read().split('\nDAYS = ', 1)[1]
-tests = set()
+tests, before = set(), rows
 for path in glob.glob('crates/tests_*/src/**/*.rt', recursive=True):
     tests |= set(re.findall(r'\bfn ([a-z_0-9]+)', open(path, encoding='utf-8').read()))
 for name in re.findall(r'`([a-z0-9]+(?:_[a-z0-9]+){2,})`', page):
     rows += 1
     if name not in tests:
         say(f'docs/TESTS.md: there is no test {name}')
+some(before, 'test of docs/TESTS.md')
+before = rows
 for names in re.findall(r'requests\.sh((?:[\s,]+"[^"]+")+)', page):
     for name in re.findall(r'"([^"]+)"', names):
         rows += 1
         if f'"{name.replace(chr(10) + "  ", " ")}":' not in days:
             say(f'docs/TESTS.md: requests.sh has no day "{name}"')
+some(before, 'day of docs/TESTS.md')
 scripts, named = {os.path.basename(path) for path in glob.glob('checks/*.sh')} - {'common.sh'}, set(re.findall(r'([a-z0-9_-]+\.sh)', page))
 for name in sorted(named - scripts):
     say(f'docs/TESTS.md: there is no checks/{name}')
 for name in sorted(scripts - named):
     say(f'docs/TESTS.md: nothing about checks/{name}')
+# Each is run by all.sh, or by hand.
+run = set(re.search(r'^checks=\$\{\*:-([^}]*)\}', open('checks/all.sh', encoding='utf-8').read(), re.M)[1].split()) | {'all.sh'}
+by_hand = set(re.findall(r'([a-z0-9_-]+\.sh)', page.partition('. Run by hand what that leaves out:\n\n')[2].split('\n\n', 1)[0]))
+for name in sorted(scripts - run - by_hand):
+    say(f'checks/all.sh leaves out {name}, and docs/TESTS.md has it not by hand')
+for name in sorted(run - scripts):
+    say(f'checks/all.sh: there is no checks/{name}')
 
 print(f'{rows} rows, {missing} missing')
 sys.exit(missing > 0)
