@@ -14,10 +14,10 @@
 # is what efitools makes of the same certificates, by `desk shim`, `desk audit` and desk-publish, and no
 # slip in it is published; index.html and dbx.json are those of the lists, by a reading of their own that
 # finds each slip, with no markup and no word that a person typed. It needs curl, efitools, dbxtool
-# (fwupd), openssl, python3, setpriv, ssh-keygen and xxd.
+# (fwupd), flock, openssl, python3, setpriv, ssh-keygen and xxd.
 set -eu
 . "$(dirname -- "$(readlink -f -- "$0")")/common.sh"
-needs cert-to-efi-sig-list curl dbxtool openssl python3 setpriv sig-list-to-certs sign-efi-sig-list ssh-keygen xxd
+needs cert-to-efi-sig-list curl dbxtool flock openssl python3 setpriv sig-list-to-certs sign-efi-sig-list ssh-keygen xxd
 find_program "$@"
 # In memory, where there is room for it: each of some hundred publications waits for its disk.
 if [ -w /dev/shm ]; then export TMPDIR=/dev/shm; fi
@@ -283,6 +283,7 @@ publish 3 'ssh-keygen signs nothing with' --sign "$room/sign" --key none
 CREDENTIALS_DIRECTORY=$room publish 0 'calls 11: published' --sign "$room/leaving" --key publisher
 shows 11
 is_desks
+[ -s credentials ] || fail 'the signing command did not tell of credentials'
 if grep -v '^none$' credentials; then fail 'the signing command is told of credentials'; fi
 for file in dbx.auth db.auth SHA256SUMS.sig; do
     [ "$(stat -c %a "out/published/$file")" = 644 ] || fail "the mode of $file: $(stat -c %a "out/published/$file")"
