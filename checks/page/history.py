@@ -196,7 +196,7 @@ def measured(browser: Browser) -> Tuple[float, float]:
     browser.script("location.hash = '#/history'")
     browser.sees(f"{COUNT:,} calls.", 60)
     ended = browser.script(f"return performance.getEntriesByName(location.origin + '/minutes/{COUNT - 999}').pop().responseEnd")
-    first = browser.script("return watched.row") - ended
+    first = until(30, "the first row is noted", lambda: browser.script("return watched.row"), browser.text) - ended
     browser.fill(FILTER, "voted yes on request 777, now approved")
     browser.sees(f"1 of {COUNT:,} calls.")
     browser.fill(FILTER, "")

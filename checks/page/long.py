@@ -4,7 +4,7 @@ import threading
 from typing import List
 
 from browser import Browser
-from place import Place, fail, token, unsigned
+from place import Place, fail, token, unsigned, until
 
 COUNT = 10000
 
@@ -60,6 +60,7 @@ def first_screen(browser: Browser) -> float:
     browser.go("requests")
     browser.sees(f"of {COUNT:,}", 60)
     ended = browser.script("return performance.getEntriesByName(location.origin + '/requests').pop().responseEnd")
+    until(30, "the first row is noted", lambda: browser.script("return watched.row"), browser.text)
     watched = browser.script("return watched")
     return max(watched["row"] - ended, watched["gap"])
 
