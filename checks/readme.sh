@@ -114,6 +114,8 @@ def passes(commands, room, port):
 for number in (signal.SIGHUP, signal.SIGINT, signal.SIGTERM):
     signal.signal(number, lambda *_: sys.exit(1))
 days = [day("README.md", "A day at the desk"), day("docs/FORMATS.md", "A day by curl")]
+if not all(days):
+    sys.exit("checks/readme.sh: a page has no commands")
 held = Held()
 for port in (8080, held.port):
     try:

@@ -652,6 +652,8 @@ AFTER = {"leaked-token": refused, "lost-officer": refused, "publishing": nobodys
 def run_page(machine: Machine, name: str) -> Tuple[int, float]:
     begun = time.monotonic()
     found = page_of(name)
+    if not found:
+        fail(f"{name}: no commands are found")
     machine.make_desk()
     machine.start_proxy()
     try:
