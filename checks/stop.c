@@ -14,19 +14,26 @@
 #include <fcntl.h>
 #include <limits.h>
 #include <signal.h>
+#include <stdint.h>
 #include <stdio.h>
 #include <stdlib.h>
 #include <string.h>
+#include <sys/stat.h>
 #include <sys/syscall.h>
 #include <sys/uio.h>
 #include <unistd.h>
 
 enum file { DB, LOG, ANSWER, OTHER };
 
+/* A place behind each file's end. */
+#define UNCHANGED ((off_t)INT64_MAX)
+
 static const char *const names[] = { "db", "log", "answer", "other" };
 static const char *desk, *kept;
 static long stop, made;
 static int calls = -1, fails_all, fails_one, is_kept[2];
+/* Where the database file and its log differ from what is kept of them: from these places on. */
+static off_t changed[2];
 /* Whether the program was stopped and lives on, and the file of that call. */
 static int has_stopped;
 static enum file stopped_at;
@@ -66,23 +73,26 @@ static void keep(int fd, enum file file) {
     char path[PATH_MAX];
     if (!kept) return;
     snprintf(path, sizeof path, "%s/%s", kept, names[file]);
-    int copy = open(path, O_WRONLY | O_CREAT | O_TRUNC | O_CLOEXEC, 0600);
-    off_t at = 0;
+    int copy = open(path, O_WRONLY | O_CREAT | O_CLOEXEC, 0600);
+    off_t at = changed[file];
     ssize_t length;
     if (copy < 0) fail("stop.c: no file for what is kept\n");
     while ((length = syscall(SYS_pread64, fd, buffer, sizeof buffer, at)) > 0) {
-        if (syscall(SYS_write, copy, buffer, length) != length) fail("stop.c: what is kept finds no room\n");
+        if (syscall(SYS_pwrite64, copy, buffer, length, at) != length) fail("stop.c: what is kept finds no room\n");
         at += length;
     }
     if (length < 0) fail("stop.c: a file can't be read\n");
+    struct stat now;
+    if (fstat(fd, &now) || syscall(SYS_ftruncate, copy, now.st_size)) fail("stop.c: what is kept can't be cut\n");
     close(copy);
+    changed[file] = now.st_size;
 }
 
 /* Whether a call on this file, made after the stop, fails. */
 static int is_lost(enum file file) { return has_stopped && file != ANSWER && (fails_all || file == stopped_at); }
 
-/* Whether this call has to fail. It is counted, and the process killed if it is to stop here. */
-static int stops(const char *name, int fd, enum file file) {
+/* Whether this call, which changes the file from this place on, has to fail. It is counted, and the process killed if it is to stop here. */
+static int stops(const char *name, int fd, enum file file, off_t from) {
     char line[64];
     int length = snprintf(line, sizeof line, "%s %s\n", name, names[file]);
     if (calls >= 0) syscall(SYS_write, calls, line, length);
@@ -90,6 +100,7 @@ static int stops(const char *name, int fd, enum file file) {
         is_kept[file] = 1;
         keep(fd, file);
     }
+    if (file <= LOG && from < changed[file]) changed[file] = from;
     int is_here = ++made == stop;
     if (is_here && !fails_all && !fails_one) kill(getpid(), SIGKILL);
     if (is_here) {
@@ -102,35 +113,35 @@ static int stops(const char *name, int fd, enum file file) {
 }
 
 ssize_t pwrite(int fd, const void *from, size_t size, off_t at) {
-    return stops("pwrite", fd, file_of(fd)) ? -1 : NEXT(pwrite)(fd, from, size, at);
+    return stops("pwrite", fd, file_of(fd), at) ? -1 : NEXT(pwrite)(fd, from, size, at);
 }
 
 ssize_t pwrite64(int fd, const void *from, size_t size, off64_t at) {
-    return stops("pwrite", fd, file_of(fd)) ? -1 : NEXT(pwrite64)(fd, from, size, at);
+    return stops("pwrite", fd, file_of(fd), at) ? -1 : NEXT(pwrite64)(fd, from, size, at);
 }
 
 ssize_t pwritev(int fd, const struct iovec *from, int count, off_t at) {
-    return stops("pwritev", fd, file_of(fd)) ? -1 : NEXT(pwritev)(fd, from, count, at);
+    return stops("pwritev", fd, file_of(fd), at) ? -1 : NEXT(pwritev)(fd, from, count, at);
 }
 
 ssize_t write(int fd, const void *from, size_t size) {
     enum file file = file_of(fd);
-    return file != OTHER && stops("write", fd, file) ? -1 : NEXT(write)(fd, from, size);
+    return file != OTHER && stops("write", fd, file, 0) ? -1 : NEXT(write)(fd, from, size);
 }
 
 ssize_t writev(int fd, const struct iovec *from, int count) {
     enum file file = file_of(fd);
-    return file != OTHER && stops("writev", fd, file) ? -1 : NEXT(writev)(fd, from, count);
+    return file != OTHER && stops("writev", fd, file, 0) ? -1 : NEXT(writev)(fd, from, count);
 }
 
-int ftruncate(int fd, off_t length) { return stops("ftruncate", fd, file_of(fd)) ? -1 : NEXT(ftruncate)(fd, length); }
+int ftruncate(int fd, off_t length) { return stops("ftruncate", fd, file_of(fd), length) ? -1 : NEXT(ftruncate)(fd, length); }
 
-int ftruncate64(int fd, off64_t length) { return stops("ftruncate", fd, file_of(fd)) ? -1 : NEXT(ftruncate64)(fd, length); }
+int ftruncate64(int fd, off64_t length) { return stops("ftruncate", fd, file_of(fd), length) ? -1 : NEXT(ftruncate64)(fd, length); }
 
 /* A sync: the file has its contents of now in KEPT. The disk itself isn't waited for, since it doesn't stop. */
 static int sync_of(const char *name, int fd) {
     enum file file = file_of(fd);
-    if (stops(name, fd, file)) return -1;
+    if (stops(name, fd, file, UNCHANGED)) return -1;
     if (file <= LOG) keep(fd, file);
     return 0;
 }

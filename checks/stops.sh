@@ -19,6 +19,9 @@
 # - Each of the fourteen commands on a desk that is ready for it: a person on the command line, all
 #   others by `answer`; a Confirm of a digest, of a level and of an import. The import has 300 digests
 #   and is stopped at every call: dbx then has none of them, or all, in 14,428 bytes.
+# - A checkpoint within a call: some hundred calls fill a server's log with 1,000 frames, so the next one
+#   copies them into the file before its commit. It is stopped at some of the copy's writes, and at each
+#   call behind the last of them. The desk keeps all calls before it.
 # - Ten lives of one desk, each with a person, whose call is stopped in all but the last; and of one
 #   where a second officer confirmed the revocation of an image's digest: other commands are stopped,
 #   and the response to a submission meets a full device. dbx keeps the digest, the image stays refused,

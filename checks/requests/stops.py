@@ -3,6 +3,7 @@ made of stop.c and of fail.c, and the repository's folder; then the case that is
 import contextlib
 import functools
 import gzip
+import itertools
 import multiprocessing
 import os
 import re
@@ -12,7 +13,7 @@ import sqlite3
 import subprocess
 import sys
 import time
-from typing import Callable, Iterator, NamedTuple, Sequence
+from typing import Callable, Iterable, Iterator, NamedTuple, Sequence
 
 from days import Step, again, confirms, drops, lists, named, proposes, raising, refuses, returns, reviews, submits, takes
 from desk import (
@@ -46,6 +47,10 @@ class Files(NamedTuple):
 
     db: bytes | None = None
     log: bytes | None = None
+
+    def sum(self) -> str:
+        """A sum of both, which differs where one of them does."""
+        return sha256(repr([None if it is None else sha256(it) for it in self]).encode())
 
 
 class Ran(NamedTuple):
@@ -248,9 +253,14 @@ def places(length: int, every: bool) -> Iterator[int]:
         number += 1 if every or number < 20 else 1 + length // LONG
 
 
-def stops_of(length: int, every: bool) -> list[Stop]:
-    """The stops of a run of so many calls: all, or the one that is asked for."""
-    stops = [*(Stop(way, number) for way in WAYS for number in places(length, every)), Stop("end", length + 1)]
+def spread(begin: int, end: int, count: int) -> list[int]:
+    """So many numbers from the first to the last of these, as far from one another as they can be."""
+    return [begin + (end - begin) * it // (count - 1) for it in range(count)]
+
+
+def stops_of(length: int, numbers: Iterable[int]) -> list[Stop]:
+    """The stops of a run of so many calls at these numbers, and behind its last call; or the one that is asked for."""
+    stops = [*(Stop(way, number) for number in numbers for way in WAYS), Stop("end", length + 1)]
     return [it for it in stops if len(ONLY) < 3 or (it.way, str(it.number)) == (ONLY[1], ONLY[2])]
 
 
@@ -291,8 +301,8 @@ class Case:
 
     def __init__(self, name: str, files: Files, calls: Sequence[Call], barred: Barred | None = None) -> None:
         self.name, self.files, self.calls, self.barred = name, files, calls, barred
-        # By the files that a stop left: how many of the calls are there, and the files once each was given again.
-        self.found: dict[Files, tuple[int, Files]] = {}
+        # By the sum of the files that a stop left: how many of the calls are there, and the files once each was given again.
+        self.found: dict[str, tuple[int, Files]] = {}
         place().gives(files, ("level", DESK))
         self.states = [place().tables()]
         minutes = exported(files, self.states[0])["minutes"]
@@ -372,9 +382,10 @@ class Case:
 
     def holds(self, left: Files, least: int, what: str) -> Files:
         """The desk in these files has at least so many of the calls. The files once each was given again."""
-        if left not in self.found:
-            self.found[left] = self.opened(left, what)
-        count, files = self.found[left]
+        name = left.sum()
+        if name not in self.found:
+            self.found[name] = self.opened(left, what)
+        count, files = self.found[name]
         if count < least:
             raise Broken(f"{what}: an answered call isn't there")
         return files
@@ -384,10 +395,21 @@ class Case:
         ran = self.stopped(whole, stop)
         return [self.holds(left, self.least(ran), self.told(whole, stop, name)) for name, left in remains(ran).items()]
 
+    def whole(self) -> Ran:
+        """The run without a stop."""
+        ran = self.run()
+        if ran.status or ran.answers[-1] != self.calls[-1].due or not ran.calls:
+            raise Broken(f"{self.name}: status {ran.status}, {ran.answers[-1]!r}, {ran.err!r}, {len(ran.calls)} calls that count")
+        return ran
+
     def meets(self, every: bool = False) -> Counts:
         """The calls meet each stop."""
-        whole = self.run()
-        stops = stops_of(len(whole.calls), every)
+        whole = self.whole()
+        return self.meets_at(whole, places(len(whole.calls), every))
+
+    def meets_at(self, whole: Ran, numbers: Iterable[int]) -> Counts:
+        """The calls meet the stops at the calls of these numbers."""
+        stops = stops_of(len(whole.calls), numbers)
         for stop in stops:
             self.outlives(whole, stop)
         return Counts(len(stops), len(self.found))
@@ -422,9 +444,9 @@ class Making(Case):
         self.name, self.files, self.calls = "init", Files(), [Call(("init", DESK, OWNER), b"", b"", "")]
 
     def meets(self, every: bool = False) -> Counts:
-        whole = self.run()
+        whole = self.whole()
         tables, found = place().tables(), set()
-        stops = stops_of(len(whole.calls), every)
+        stops = stops_of(len(whole.calls), places(len(whole.calls), every))
         for stop in stops:
             ran = self.stopped(whole, stop)
             for name, left in remains(ran).items():
@@ -437,7 +459,13 @@ class Making(Case):
 # ---- each command
 
 PEOPLE = (("ann", "submitter"), ("rita", "reviewer"), ("raul", "reviewer"), ("sid", "signer"), ("olga", "officer"), ("otto", "officer"))
-CSV = "".join(["kind,value,generation\n", *(f"sha256,{it},\n" for it in DIGESTS)]).encode()
+
+
+def csv_of(digests: Iterable[str]) -> bytes:
+    return "".join(["kind,value,generation\n", *(f"sha256,{it},\n" for it in digests)]).encode()
+
+
+CSV = csv_of(DIGESTS)
 # An image that is barred by its digest, and one that is barred by its certificate.
 TINY_FILE, SIGNED_FILE = f"{ROOT}/examples/tiny.efi", f"{ROOT}/examples/signed.efi"
 with open(TINY_FILE, "rb") as image:
@@ -536,7 +564,7 @@ def imports() -> Counts:
 
 def lived(case: Case, way: str, life: int) -> tuple[Files, Counts]:
     """A life that is stopped later than the one before; the tenth isn't. The next one goes on with one of the files that the stop may leave."""
-    whole = case.run()
+    whole = case.whole()
     number = life * len(whole.calls) // 9
     ends = case.outlives(whole, Stop(way, min(number, len(whole.calls) + 1)))
     return ends[life % len(ends)], Counts(int(number <= len(whole.calls)), len(case.found))
@@ -661,12 +689,53 @@ def served(way: str) -> Counts:
     return counts
 
 
+# ---- a checkpoint within a call
+
+
+class Filled(Case):
+    """A call to a server that answered others before, by which its log grew."""
+
+    def __init__(self, name: str, files: Files, fill: Sequence[Call], call: Call) -> None:
+        self.begin, self.fill = files, fill
+        super().__init__(name, after(files, fill), [call])
+
+    def run(self, stop: Stop | None = None) -> Ran:
+        """A run with all calls; of its answers the last."""
+        given = [it.given for it in (*self.fill, *self.calls)]
+        ran = place().serve(self.begin, given, STOPPED, *((stop.number, stop.way) if stop else ()))
+        if ran.answers[:-1] != [b"", *(it.due for it in self.fill[1:])]:
+            raise Broken(f"{self.name}: another answer before it")
+        return ran._replace(answers=ran.answers[-1:])
+
+
+def copies(ran: Ran) -> list[int]:
+    """The numbers of the calls that copy the log into the file, for the first time after the first answer."""
+    later = [*enumerate(ran.calls, 1)][ran.marks[0] :]
+    found = itertools.dropwhile(lambda it: it[1] != "pwrite db", later)
+    return [number for number, _ in itertools.takewhile(lambda it: it[1].endswith(" db"), found)]
+
+
+def checkpoints() -> Counts:
+    """A call that copies a log of 1,000 frames into the file before its commit. It is stopped at some of the copy's calls, and at each call
+    behind these."""
+    name, calls = "a call with a checkpoint", [asks(lists("olga", f"f-{it}", f"{it:064x}")) for it in range(400)]
+    ran = place().serve(DESKS["ready"], [it.given for it in calls], STOPPED)
+    # the call that does so, and those before it
+    last = sum(it < copies(ran)[0] for it in ran.marks)
+    case = Filled(name, DESKS["ready"], calls[:last], calls[last])
+    whole = case.whole()
+    copied = copies(whole)
+    if last + 1 == len(calls) or copied[0] <= whole.marks[-2] or whole.calls[copied[-1]] != "pwrite log":
+        raise Broken(f"{name}: the log isn't copied within a call")
+    return case.meets_at(whole, [*spread(copied[0], copied[-1], 5), *range(copied[-1] + 1, len(whole.calls) + 1)])
+
+
 # ---- files of version 1
 
 # The digests that one officer imported while the file was of version 1: that of an image, and of each number its two bytes, little-endian,
 # and 30 zero bytes.
 FIRST_DIGESTS = [TINY_DIGEST, *((number.to_bytes(2, "little") + bytes(30)).hex() for number in range(1, 300))]
-FIRST_CSV = "".join(["kind,value,generation\n", *(f"sha256,{it},\n" for it in FIRST_DIGESTS)]).encode()
+FIRST_CSV = csv_of(FIRST_DIGESTS)
 FIRST_PEOPLE = [*PEOPLE[:3], ("rosa", "reviewer"), *PEOPLE[3:5]]
 # The file that a program of version 1 made.
 with gzip.open(f"{ROOT}/examples/version-1/desk.db.gz") as data:
@@ -757,8 +826,8 @@ class Migration(Case):
         return found.version
 
     def meets(self, every: bool = True) -> Counts:
-        whole, met = self.run(), []
-        stops = stops_of(len(whole.calls), every)
+        whole, met = self.whole(), []
+        stops = stops_of(len(whole.calls), places(len(whole.calls), every))
         for stop in stops:
             ran = self.stopped(whole, stop)
             for name, left in remains(ran).items():
@@ -887,6 +956,7 @@ LIVES = {
 }
 CASES: dict[str, Callable[[], Counts]] = {
     # the longest first
+    "a call with a checkpoint": checkpoints,
     "a confirmed import": imports,
     **{f"{name} by {way}": functools.partial(lives, way) for name, lives in LIVES.items() for way in WAYS},
     "a file of version 1": migrates,
@@ -920,7 +990,7 @@ def tried(name: str) -> Counts | str:
     try:
         counts = CASES[name]()
     except (Broken, SystemExit) as it:
-        return str(it)
+        return str(it).removeprefix("stops.py: ")
     except Exception as it:
         return f"{name}: {it!r}"
     if os.environ.get("TIMES"):
@@ -939,6 +1009,8 @@ with Program(PROGRAM) as program:
             if isinstance(it, str):
                 fail(it)
             counts = counts.plus(it)
+    if len(ONLY) == 3 and not counts.stops:
+        fail(f"{' '.join(ONLY)}: no such stop")
     print(
         f"{counts.stops} stops in {len(names)} cases left {counts.opened} different pairs of a file and its log, and {counts.lost} responses"
         " were lost: each desk went on as it has to"
