@@ -53,8 +53,8 @@ fn say_impact<W: Buffered>(impact: &ShownImpact, writer: &mut W) -> Result<(), F
 
 /// Writes the impact of the proposal of this number: a line for each image that another officer's
 /// Confirm of it would bar, and the length of dbx afterwards. `Refused`: an image that is allowed
-/// now would be barred. After `Write`, `NoMemory` and `Store` the writer holds a prefix of the
-/// lines, which may be empty; after any other fault nothing is written. The desk doesn't change.
+/// now would be barred. After `Write` the writer holds a prefix of the lines; after any other fault
+/// it is unchanged. The desk doesn't change.
 ///
 /// `Reopen`: the desk has to be opened again. The other faults are those of `Desk::impact`, and
 /// `Write`.
@@ -78,6 +78,8 @@ pub fn foretell<S: Alter + Drop, W: Buffered>(
         fault ≢ row_of refusals.NoMemory → fault ≢ row_of refusals.Store
         → fault ≢ row_of refusals.Write
         → ForEachShown S.Store desk.old (RefusesImpact number fault.refusal)) }
+    ensures unwritten { IfErr result (λ fault. fault ≢ row_of refusals.Write
+        → writer.new ≡ writer.old) }
     ensures poisons { IsErrOf result (row_of refusals.Store) → desk.new.needs_reopening ≡ true }
     ensures closed { desk.old.needs_reopening ≡ true → (result ≡ Err (row_of refusals.Reopen))
         × (desk.new ≡ desk.old) × (writer.new ≡ writer.old) }
@@ -86,6 +88,8 @@ pub fn foretell<S: Alter + Drop, W: Buffered>(
     ensures same { HasCleanDisk (state S.Store desk.new.conn)
         → result ≢ Err (row_of refusals.Store) → KeepsDesk S.Store desk.old desk.new }
     ensures spares { SparesDesk S.Store desk.old desk.new }
+    ensures clean { HasCleanDisk (state S.Store desk.new.conn)
+        → HasCleanDisk (state S.Store desk.old.conn) }
 {
     let impact = match desk.impact(&Caller::Console, number) {
         Ok(impact) => impact,

@@ -55,6 +55,8 @@ pub fn add<S: Alter + Drop, W: Buffered>(
 
     ensures stopped { MayStop S.Store desk.old desk.new
         (called Caller.Console key.now (Command.AddPerson person)) }
+    ensures clean { HasCleanDisk (state S.Store desk.new.conn)
+        → HasCleanDisk (state S.Store desk.old.conn) }
 {
     let reply = match desk.apply(&Caller::Console, key, &Command::AddPerson(person)) {
         Ok(reply) => reply,
@@ -93,6 +95,8 @@ pub fn judge<S: Alter + Drop, W: Buffered>(
     ensures same { HasCleanDisk (state S.Store desk.new.conn)
         → result ≢ Err (row_of refusals.Store) → KeepsDesk S.Store desk.old desk.new }
     ensures spares { Spares S.Store desk.old.conn desk.new.conn }
+    ensures clean { HasCleanDisk (state S.Store desk.new.conn)
+        → HasCleanDisk (state S.Store desk.old.conn) }
 {
     let said = match desk.verdict(found) {
         Ok(said) => said,
@@ -125,6 +129,8 @@ pub fn write_export<S: Alter + Drop, W: Buffered>(
     ensures same { HasCleanDisk (state S.Store desk.new.conn)
         → result ≢ Err (row_of refusals.Store) → KeepsDesk S.Store desk.old desk.new }
     ensures spares { SparesDesk S.Store desk.old desk.new }
+    ensures clean { HasCleanDisk (state S.Store desk.new.conn)
+        → HasCleanDisk (state S.Store desk.old.conn) }
 {
     match desk.export(what, writer) {
         Ok(()) => {}

@@ -35,6 +35,14 @@ judged g old new before after (Ok outcome) found of told =
 pub unread : {S : Type 0} (g : store.Ghosts S) (old new : Desk S) (contents : Option (List ℕ)) (fault : Fault) → StopsVerdict g old new contents contents fault
 unread g old new contents fault = record { unwritten = λ other. Keeps-refl contents; beginning = inl (Keeps-refl contents) }
 
+-- what wasn't written, unless the write failed, keeps the writer's bytes
+pub silent_of : {W : Type 0} (contents : W → Option (List ℕ)) (before after : W) (work : Result Outcome Fault)
+    → IfErr work (λ fault. fault ≢ row_of refusals.Write → after ≡ before)
+    → IfErr work (λ fault. fault ≢ row_of refusals.Write → Keeps (contents before) (contents after))
+silent_of contents before after (Ok outcome) unwritten = tt
+silent_of contents before after (Err fault) unwritten = λ other.
+    subst (λ w. Keeps (contents before) (contents w)) (sym (unwritten other)) (Keeps-refl (contents before))
+
 -- a verdict on these facts stopped
 pub stopped : {S W : Type 0} (g : store.Ghosts S) (old new : Desk S) (contents : W → Option (List ℕ)) (before after : W) (work : Result Outcome Fault)
     (found : Facts) → ((image : List ℕ) × IsFactsOf image found)

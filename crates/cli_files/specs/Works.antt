@@ -60,12 +60,17 @@ pub record StopsVerdict {S : Type 0} (g : store.Ghosts S) (old new : Desk S) (be
   pub beginning : Keeps before after ⊎ BeginsVerdict g old new before after
 
 module _ {S : Type 0} (g : store.Ghosts S) where
+  -- a disk that is clean after the work was clean before it
+  abbrev pub WasClean : Desk S → Desk S → Type 0
+  WasClean desk left = HasCleanDisk (state g left.conn) → HasCleanDisk (state g desk.conn)
+
   -- After work that reads, the desk shows each history that it showed, and a stop leaves only what it
   -- could have left before.
   abbrev pub IsOnlyRead : Desk S → Desk S → Result Outcome Fault → Type 0
   IsOnlyRead desk left work =
       (HasCleanDisk (state g left.conn) → work ≢ Err (row_of refusals.Store) → KeepsDesk g desk left)
       × SparesDesk g desk left
+      × WasClean desk left
 
   -- the bytes of this export, for each history that the desk shows, were written, or a prefix of
   -- them
@@ -81,10 +86,12 @@ module _ {S : Type 0} (g : store.Ghosts S) where
       × IfOk work (JudgesImage g desk left before after)
       × IfErr work (StopsVerdict g desk left before after)
 
-  -- the impact of the proposal of this number was written, or a prefix of it, and the outcome is its
-  -- own; or the refusal is, except for the device's and the writer's
+  -- The impact of the proposal of this number was written, or a prefix of it, and the outcome is its
+  -- own; or the refusal is, except for the device's and the writer's. Only if the write failed was a
+  -- prefix written.
   abbrev pub ForetellsImpact : ℕ → Option (List ℕ) → Option (List ℕ) → Desk S → Desk S → Result Outcome Fault → Type 0
-  ForetellsImpact k before after desk left work = IsOnlyRead desk left work × (HasCleanDisk (state g left.conn)
+  ForetellsImpact k before after desk left work = IsOnlyRead desk left work
+      × IfErr work (λ fault. fault ≢ row_of refusals.Write → Keeps before after) × (HasCleanDisk (state g left.conn)
       → OnOk work (ForEachShown g desk (Writes before after (foretold_lines k)))
       × IfOk work (λ outcome. ForEachShown g desk (Foretells k outcome))
       × OnErr work (ForEachShown g desk (WritesBeginning before after (foretold_lines k)))
@@ -98,6 +105,7 @@ module _ {S : Type 0} (g : store.Ghosts S) where
       (HasCleanDisk (state g left.conn) → OnOk work ((reply : Reply)
       × Replies g desk left c reply × Appends before after (reply_line reply)))
       × MayStop g desk left c
+      × WasClean desk left
 
 -- the same of a desk in files, which is then closed
 module _ {D : Type 0} (g : Ghosts D) where

@@ -50,8 +50,8 @@ impl<W: Buffered> Work for Foretelling<W> {
 /// `Refused` if one of these images is allowed now. The desk's history doesn't change.
 ///
 /// The faults of the desk's file come first, as for `add_person`; then the refusal that the Confirm
-/// would get, then NoMemory, Store, Reopen or Write. After Write, NoMemory and Store a prefix of
-/// the lines may be written; after any other fault nothing is.
+/// would get, then NoMemory, Store, Reopen or Write. Only after Write may a prefix of the lines be
+/// written; after any other fault nothing is.
 pub fn foretell_from<S: Start, W: Buffered>(
     rt: &HostRuntime,
     path: &str,

@@ -132,6 +132,8 @@ fn judge_file<S: Alter + Drop, W: Buffered>(
     ensures same { HasCleanDisk (state S.Store desk.new.conn)
         → result ≢ Err (row_of refusals.Store) → KeepsDesk S.Store desk.old desk.new }
     ensures spares { Spares S.Store desk.old.conn desk.new.conn }
+    ensures clean { HasCleanDisk (state S.Store desk.new.conn)
+        → HasCleanDisk (state S.Store desk.old.conn) }
 {
     match facts_in(rt, file) {
         Ok(found) => judge(desk, &found, writer),

@@ -120,27 +120,29 @@ module _ {S : Type 0} (g : Ghosts S) where
 
     -- the run of a desk that followed all
     pub told_runs : (watch : LineWatch) (work : Result Outcome Fault) → (HasCleanDisk (state g ran.conn) → ForEachStart g desk given (λ s. HasRun g ran s calls))
-        → Tells g ran left calls before after work → Runs g desk left given before after watch work
-    told_runs watch work run told = record {
+        → (HasCleanDisk (state g ran.conn) → HasCleanDisk (state g desk.conn)) → Tells g ran left calls before after work → Runs g desk left given before after watch work
+    told_runs watch work run was told = record {
       followed = λ clean. all_told work (told.same clean) (told.ok clean) (run (told.clean clean));
       wrong = λ clean. no_line work told.named;
       unwritten = λ clean. part_told work (told.same clean) (told.unwritten clean) (run (told.clean clean));
       silent = told.silent;
       named = row_told watch work told.named;
       stopped = λ s b clean db may. left_of_run ran (state g left.conn) s calls (run (told.clean clean) s b) told.stopped clean db may;
+      clean = λ clean. was (told.clean clean);
     }
 
   -- ---- the run of a desk that stopped before
 
   pub stopped_runs : (desk left : Desk S) (given before : Option (List ℕ)) (watch : LineWatch) (fault : AuditFault) (told : Fault) → told ≡ of_audit fault
       → (HasCleanDisk (state g left.conn) → ForEachStart g desk given (λ s. (n : ℕ) → fault ≡ Line n → IsWrongLine g desk left s n))
-      → ForEachStart g desk given (λ s. LeavesRun (state g left.conn) s) → IsCaused watch fault
+      → ForEachStart g desk given (λ s. LeavesRun (state g left.conn) s) → (HasCleanDisk (state g left.conn) → HasCleanDisk (state g desk.conn)) → IsCaused watch fault
       → Runs g desk left given before before watch (Err told)
-  stopped_runs desk left given before watch fault told is wrong stopped caused = record {
+  stopped_runs desk left given before watch fault told is wrong stopped was caused = record {
     followed = λ clean. tt;
     wrong = λ clean n same s b. wrong clean s b n (line_of fault n (sym is ∙ same));
     unwritten = λ clean write s b. absurd (never_write watch fault caused (sym is ∙ write));
     silent = λ other. Keeps-refl before;
     named = rw is (run_row watch fault caused);
     stopped = stopped;
+    clean = was;
   }

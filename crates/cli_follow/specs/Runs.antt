@@ -72,6 +72,8 @@ module _ {S : Type 0} (g : store.Ghosts S) where
     -- whatever the result, a stop leaves the earlier history, or one that goes on from it and whose
     -- minutes are a beginning of the bytes
     pub stopped : ForEachStart desk given (λ s. LeavesRun (state g left.conn) s)
+    -- a disk that is clean after it was clean before it
+    pub clean : HasCleanDisk (state g left.conn) → HasCleanDisk (state g desk.conn)
 
 -- ---- over files
 
@@ -109,6 +111,7 @@ module _ {D : Type 0} (g : Ghosts D) where
     pub named : IsRunRefusal watch refusal
     pub silent : Keeps before after
     pub stopped : ForEachStart over_files desk given (λ s. LeavesRun (state over_files conn) s)
+    pub clean : HasCleanDisk (state over_files conn) → HasCleanDisk (state over_files desk.conn)
 
   -- the desk of this owner runs over the bytes
   abbrev pub RunsOn : Desk (FileStore D g) → Option (List ℕ) → Option (List ℕ) → Option (List ℕ) → LineWatch → Ending → Type 0

@@ -2,6 +2,7 @@
 //! files, whose types are costly to prove with.
 ghost use Rattle.std.specs.Prelude.{◌≡◌, ◌⊎◌, None, IfErr, IfOk, IfSome, OnErr, OnOk};
 ghost use Rattle.sqlite.specs.Held.{state};
+ghost use Rattle.sqlite.specs.State.{HasCleanDisk};
 ghost use Rattle.desk_follow.specs.Runs.{LeavesRun};
 ghost use Rattle.cli_lines.specs.Faults.{IsRow};
 ghost use Rattle.cli_opening.specs.Faults.{IsClosingRefusal, IsLasting};
@@ -56,6 +57,8 @@ fn follow_and_tell<S: Alter + Drop, R: BufRead, W: Buffered>(
 
     ensures lost { IfErr result (λ e. ForEachStart S.Store desk (R.remaining reader.old)
         (LeavesRun (state S.Store e.1))) }
+    ensures cleared { IfErr result (λ e. HasCleanDisk (state S.Store e.1)
+        → HasCleanDisk (state S.Store desk.conn)) }
     ensures named { IfErr result (λ e. IsRunRefusal watch.new e.0) }
     ensures silent { OnErr result (writer.new ≡ writer.old) }
 {

@@ -122,6 +122,10 @@ pub fn follow<S: Alter + Drop, R: BufRead>(
         → LeavesRun (state S.Store run.desk.conn) s) }
     ensures failed { IfErr result (λ e. (s : Start) → Begins S.Store desk s (R.remaining reader.old)
         → LeavesRun (state S.Store e.1) s) }
+    ensures clean { IfOk result (λ run. HasCleanDisk (state S.Store run.desk.conn)
+        → HasCleanDisk (state S.Store desk.conn)) }
+    ensures cleared { IfErr result (λ e. HasCleanDisk (state S.Store e.1)
+        → HasCleanDisk (state S.Store desk.conn)) }
     ensures caused { IfOk result (λ run. IfErr run.result (IsCaused watch.new)) }
     ensures named { IfErr result (λ e. IsCaused watch.new (AuditFault.Device e.0)) }
 {

@@ -1,4 +1,4 @@
-use Rattle.std.proofs.Common.{◌≡◌, refl}
+use Rattle.std.proofs.Common.{◌≡◌, refl, arith}
 use Rattle.desk_bytes.specs.declared.refusal.Refusal.TheVariants as refusals
 use Rattle.desk_texts.specs.declared.caller.Caller.TheVariants as callers
 use Rattle.desk_history.specs.ImpactShown.{impact_for}
@@ -24,6 +24,9 @@ returns-in-Err-clause-same g c = λ clean other.
 pub returns-in-Err-clause-spares : goal.returns-in-Err-clause-spares
 returns-in-Err-clause-spares g c = λ owner cs was. c.in-Err.ensures.reads.spares
 
+pub returns-in-Err-clause-clean : goal.returns-in-Err-clause-clean
+returns-in-Err-clause-clean g c = λ clean. omega (arith, c.in-Err.ensures.reads.spares.clean, clean)
+
 -- the lines were written
 
 pub returns-in-Ok-say_impact-clause-ok : goal.returns-in-Ok-say_impact-clause-ok
@@ -37,7 +40,16 @@ returns-in-Ok-say_impact-clause-exact g c = λ clean owner cs was.
 pub returns-in-Ok-say_impact-clause-spares : goal.returns-in-Ok-say_impact-clause-spares
 returns-in-Ok-say_impact-clause-spares g c = λ owner cs was. c.in-Ok.ensures.reads.spares
 
+pub returns-in-Ok-say_impact-clause-clean : goal.returns-in-Ok-say_impact-clause-clean
+returns-in-Ok-say_impact-clause-clean g c = λ clean. omega (arith, c.in-Ok.ensures.reads.spares.clean, clean)
+
 -- they weren't, or not whole
+
+pub returns-clause-unwritten : goal.returns-clause-unwritten
+returns-clause-unwritten g c = λ other. absurd (other c.in-Err-say_impact.ensures.named)
+
+pub returns-clause-clean : goal.returns-clause-clean
+returns-clause-clean g c = λ clean. omega (arith, c.in-Ok.ensures.reads.spares.clean, clean)
 
 pub returns-clause-beginning : goal.returns-clause-beginning
 returns-clause-beginning g c = λ clean owner cs was.

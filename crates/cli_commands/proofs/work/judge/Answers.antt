@@ -1,4 +1,4 @@
-use Rattle.std.proofs.Common.{ap, refl}
+use Rattle.std.proofs.Common.{ap, refl, arith}
 use Rattle.desk_history.specs.Verdicts as verdicts
 use Rattle.desk_history.specs.declared.finding.Verdict.{Verdict}
 use Rattle.cli_lines.specs.VerdictLines.{verdict_line}
@@ -23,6 +23,14 @@ returns-in-Err-clause-closed g c = λ failed.
 pub returns-in-Err-clause-same : goal.returns-in-Err-clause-same
 returns-in-Err-clause-same g c = λ clean other.
     c.in-Err.ensures.reads.same clean (λ given. other (store_told c.from.result c.in-Err.refusal c.from.ensures given))
+
+pub returns-in-Err-clause-clean : goal.returns-in-Err-clause-clean
+returns-in-Err-clause-clean g c = λ clean. omega (arith, c.in-Err.ensures.reads.spares.clean, clean)
+
+-- the desk gave its verdict
+
+pub returns-clause-clean : goal.returns-clause-clean
+returns-clause-clean g c = λ clean. omega (arith, c.in-Ok.ensures.reads.spares.clean, clean)
 
 -- the line of the verdict wasn't written
 

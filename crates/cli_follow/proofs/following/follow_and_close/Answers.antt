@@ -33,6 +33,7 @@ returns-in-Err-clause-ran g c = inr (record {
   named = c.in-Err.ensures.named;
   silent = keeps_same g.W.Write.contents _ _ c.in-Err.ensures.silent;
   stopped = c.in-Err.ensures.lost;
+  clean = c.in-Err.ensures.cleared;
 })
 
 pub returns-in-Err-clause-done : goal.returns-in-Err-clause-done

@@ -11,7 +11,7 @@ pub returns-in-Ok-result-clause-ran : goal.returns-in-Ok-result-clause-ran
 returns-in-Ok-result-clause-ran g c =
     told_runs g.S.Store c.args.desk c.in-Ok.run'.desk c.tell.result.desk c.in-Ok-result.calls _ _ _ c.follow.new.watch c.tell.result.work
     (λ clean s b. run_of (HasRun g.S.Store c.in-Ok.run'.desk s) c.in-Ok.run'.result c.in-Ok-result.calls c.in-Ok-result.is (c.in-Ok.ensures.ok clean s b))
-    c.tell.ensures.told
+    c.in-Ok.ensures.clean c.tell.ensures.told
 
 -- it stopped before
 
@@ -20,5 +20,5 @@ returns-in-Err-result-clause-ran g c =
     stopped_runs g.S.Store c.args.desk c.in-Ok.run'.desk _ _ c.follow.new.watch c.in-Err-result.fault c.row.result c.row.ensures
     (λ clean s b. fault_of (λ fault. (n : ℕ) → fault ≡ Line n → IsWrongLine g.S.Store c.args.desk c.in-Ok.run'.desk s n)
     c.in-Ok.run'.result c.in-Err-result.fault c.in-Err-result.is (c.in-Ok.ensures.wrong clean s b))
-    c.in-Ok.ensures.stopped
+    c.in-Ok.ensures.stopped c.in-Ok.ensures.clean
     (fault_of (IsCaused c.follow.new.watch) c.in-Ok.run'.result c.in-Err-result.fault c.in-Err-result.is c.in-Ok.ensures.caused)

@@ -28,6 +28,12 @@ returns-in-Ok-All-clause-failed g c = λ s b clean.
     let mid : HasCleanDisk (state g.S.Store c.compare.new.desk.conn) = c.in-Err-go_on.ensures.cleared clean in
     c.in-Err-go_on.ensures.failed s (c.in-Ok-All.ensures.same mid s.owner s.earlier b.shows) (c.in-Ok-All.ensures.all mid c.in-Ok-All.calls c.in-Ok-All.field-0-is s b) clean
 
+pub returns-in-Ok-clause-clean : goal.returns-in-Ok-clause-clean
+returns-in-Ok-clause-clean g c = λ clean. omega (arith, c.compare.ensures.spares.clean, c.in-Ok.ensures.clean clean)
+
+pub returns-in-Ok-All-clause-cleared : goal.returns-in-Ok-All-clause-cleared
+returns-in-Ok-All-clause-cleared g c = λ clean. omega (arith, c.compare.ensures.spares.clean, c.in-Err-go_on.ensures.cleared clean)
+
 -- they aren't
 
 pub returns-in-Ok-counted-clause-ok : goal.returns-in-Ok-counted-clause-ok
@@ -45,3 +51,9 @@ returns-in-Ok-counted-clause-stopped g c = λ s b clean db may.
     let mid : HasCleanDisk (state g.S.Store c.compare.new.desk.conn) = omega (arith, c.in-Ok-counted.ensures.spares.clean, clean) in
     let shows = c.in-Ok-counted.ensures.same clean s.owner s.earlier (c.in-Ok-Beginning.ensures.same mid s.owner s.earlier b.shows) in
     inl (shows.left clean db may)
+
+pub returns-in-Ok-counted-clause-clean : goal.returns-in-Ok-counted-clause-clean
+returns-in-Ok-counted-clause-clean g c = λ clean. omega (arith, c.compare.ensures.spares.clean, c.in-Ok-counted.ensures.spares.clean, clean)
+
+pub returns-clause-clean : goal.returns-clause-clean
+returns-clause-clean g c = λ clean. omega (arith, c.compare.ensures.spares.clean, clean)

@@ -6,7 +6,7 @@ use Rattle.cli_files.proofs.ServingLemmas.{adding_apart}
 use Rattle.cli_files.proofs.working.AddingWork.work.Goals as goal
 
 pub returns-clause-did : goal.returns-clause-did
-returns-clause-did g c = (c.add-work.ensures.told, c.add-work.ensures.stopped)
+returns-clause-did g c = (c.add-work.ensures.told, c.add-work.ensures.stopped, c.add-work.ensures.clean)
 
 pub returns-clause-left : goal.returns-clause-left
 returns-clause-left g c = both_of (λ outcome. outcome ≡ Done) _ c.add-work.result c.add-work.ensures.done c.add-work.ensures.flushed

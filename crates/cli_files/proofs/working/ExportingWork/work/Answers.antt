@@ -7,7 +7,7 @@ use Rattle.cli_files.proofs.working.ExportingWork.work.Goals as goal
 
 pub returns-clause-did : goal.returns-clause-did
 returns-clause-did g c = (
-  (c.write_export-work.ensures.same, c.write_export-work.ensures.spares),
+  (c.write_export-work.ensures.same, c.write_export-work.ensures.spares, c.write_export-work.ensures.clean),
   λ clean. (c.write_export-work.ensures.ok clean, c.write_export-work.ensures.beginning clean),
 )
 

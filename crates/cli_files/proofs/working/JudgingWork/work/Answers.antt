@@ -3,7 +3,7 @@ use Rattle.cli_files.proofs.working.JudgingWork.work.Goals as goal
 
 pub returns-clause-did : goal.returns-clause-did
 returns-clause-did g c = (
-  (c.judge_file-work.ensures.same, λ owner cs was. c.judge_file-work.ensures.spares),
+  (c.judge_file-work.ensures.same, (λ owner cs was. c.judge_file-work.ensures.spares), c.judge_file-work.ensures.clean),
   c.judge_file-work.ensures.told,
   c.judge_file-work.ensures.stopped,
 )
