@@ -1,10 +1,10 @@
 #!/bin/sh
 # Runs each subcommand of the built program, or of the named one, on the examples and on wrong words
 # and files, and compares every byte of both outputs and the status: runs.sh [PROGRAM]. Not part of
-# `rt ci`: it needs xxd.
+# `rt ci`: it needs python3 and xxd.
 set -eu
 . "$(dirname -- "$(readlink -f -- "$0")")/common.sh"
-needs xxd
+needs python3 xxd
 find_program "$@"
 owner=00112233-4455-6677-8899-aabbccddeeff
 enter_room
@@ -72,6 +72,8 @@ run 1 nothing 'refused 13 TooLong' text pack "$owner"
 there() { find . -type f | LC_ALL=C sort; }
 mkdir desks
 echo ann-token-000001 > token
+# (what a server writes)
+: > served > served.err
 echo 'added ann' > added
 printf '1\tconsole\tk1\tadd-person ann officer %s\tadded ann\n' \
     "$(printf ann-token-000001 | sha256sum | cut -d' ' -f1)" > minutes
@@ -88,11 +90,20 @@ run 0 nothing '' nothing init desks/bea.db "$owner"
 run 0 added '' token person desks/ann.db ann officer k1
 run 0 minutes '' nothing minutes desks/ann.db
 run 0 nothing '' nothing minutes desks/bea.db
-# Both files of a new desk are for their user alone, whatever the mask.
-(umask 000 && "$program" init desks/cyn.db "$owner") || fail "no desk was made"
-for file in desks/*.db desks/*.db-wal; do
-    [ ! -e "$file" ] || [ "$(stat -c %a "$file")" = 600 ] || fail "$file has the mode $(stat -c %a "$file")"
+# Both files of a new desk are for their user alone, whatever the mask; so is a log that `serve` makes.
+mask=$(umask)
+umask 000
+run 0 nothing '' nothing init desks/cyn.db "$owner"
+cp -p desks/cyn.db desks/dan.db
+serve desks/dan.db 1
+umask "$mask"
+for desk in ann bea cyn dan; do
+    for file in "desks/$desk.db" "desks/$desk.db-wal"; do
+        [ "$(stat -c %a "$file")" = 600 ] || fail "$file has the mode $(stat -c %a "$file")"
+    done
 done
+kill "$server"
+wait "$server" 2> /dev/null || :
 rm -f desks/*.db desks/*.db-wal
 [ "$(there)" = "$before" ] || fail "other files were made: $(there)"
 
