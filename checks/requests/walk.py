@@ -1,6 +1,7 @@
 """A walk of requests at a desk, each response beside that of the plain model: see ../model.sh. Its words: the program, and the walk's seed."""
 import contextlib
 import random
+import re
 import sqlite3
 import struct
 import sys
@@ -32,7 +33,13 @@ REFUSED = {
     "drop": ["NoSuchProposal", "ProposalClosed"],
 }
 TIMES = 4
-REPEATS, READS, IMPACTS = (45, 60), (70, 80), (10, 60)
+# The route of each command, or its routes, and how often one that was accepted there is to be repeated.
+ROUTES = [
+    "/requests", "/requests/{no}/review", "/requests/{no}/withdraw", "/requests/{no}/return", "/db/certificates", "/db/digests", "/db/unlist",
+    "/dbx/digests", "/dbx/certificates", "/level", "/imports/dbx", "/imports/csv", "/imports/level", "/proposals/{no}/confirm",
+    "/proposals/{no}/drop",
+]
+REPEATS, READS, IMPACTS = (3, 4), (70, 80), (10, 60)
 IMPACT_REFUSALS = ["NotYourRole", *REFUSED["confirm"][:2], *REFUSED["confirm"][3:]]
 # What is to come at least: proposals, requests to sign, and impacts over so many of these.
 PROPOSALS, OVER, FORESEEN = 300, 300, 10
@@ -51,7 +58,7 @@ ROWS = "SELECT n.id, n.caller, n.body, v.caller, hex(o.digest) FROM note n, note
 
 
 class Wish(NamedTuple):
-    """A command or `impact`, and the outcome that it is to have; `repeat` of nothing, or `read`."""
+    """A command or `impact`, and the outcome that it is to have; `repeat`, and a route; or `read`."""
 
     kind: str
     outcome: str = ""
@@ -63,8 +70,13 @@ def wishes(half: int) -> list[Wish]:
     for kind, own in REFUSED.items():
         found += [Wish(kind, why) for why in ["UnknownCaller", "NotYourRole", "KeyReused", *own] for _ in range(TIMES)]
     found += [Wish("impact", why) for why in IMPACT_REFUSALS for _ in range(TIMES)]
-    found += [Wish("repeat")] * REPEATS[half] + [Wish("read")] * READS[half] + [Wish("impact", "accepted")] * IMPACTS[half]
+    found += [Wish("repeat", route) for route in ROUTES] * REPEATS[half]
+    found += [Wish("read")] * READS[half] + [Wish("impact", "accepted")] * IMPACTS[half]
     return found
+
+
+def route_of(asked: Asked) -> str:
+    return re.sub(r"/\d+", "/{no}", asked.path)
 
 
 def signed(image: bytes, table: bytes) -> bytes:
@@ -311,9 +323,10 @@ class Chance:
         return makes[kind]()
 
     def wished(self, wish: Wish) -> Asked:
-        """A request with this outcome, if one of many that are drawn has it."""
+        """A request with this outcome, if one of many that are drawn has it; an accepted one again, of this route if there is one."""
         if wish.kind == "repeat":
-            return self.one(self.accepted) if self.accepted else self.read()
+            there = [it for it in self.accepted if route_of(it) == wish.outcome]
+            return self.one(there or self.accepted) if self.accepted else self.read()
         if wish.outcome == "UnknownCaller":
             return self.draw(wish.kind)._replace(token=self.one(["nobody-token-0001", token("console")]))
         for _ in range(100):
@@ -385,7 +398,7 @@ class Walk:
         due = self.model.respond(asked)
         self.sent += 1
         expect(server.ask(bytes_of(asked)), due, f"request {self.sent}, {kind} {what}, {asked.method} {asked.path} of {asked.token}")
-        self.counted[kind, what] += 1
+        self.counted[route_of(asked) if what == "repeated" else kind, what] += 1
         if what == "accepted":
             self.notes(asked, kind)
 
@@ -494,7 +507,8 @@ class Walk:
     def lacking(self) -> list[str]:
         """What didn't come, or not often enough."""
         wanted = [(kind, what) for kind, own in REFUSED.items() for what in ("accepted", "UnknownCaller", "NotYourRole", "KeyReused", *own)]
-        wanted += [("impact", it) for it in IMPACT_REFUSALS] + [("repeat", "repeated"), ("add-person", "NameTaken")]
+        wanted += [("impact", it) for it in IMPACT_REFUSALS] + [("add-person", "NameTaken")]
+        wanted += [(it, "repeated") for it in ("add-person", *ROUTES)]
         found = [" ".join(it) for it in wanted if not self.counted[it]]
         rules = ("dbx-digest", "dbx-certificate", "sbat")
         found += [f"an image that a Confirm bars by {it}" for it in rules if not self.barred[it]]
