@@ -212,6 +212,8 @@ class Machine:
         self.keys = 0
         # The SHA-256 that somebody read out last.
         self.told = ""
+        # The verdicts on the revoked image of full-desk, each that differs from the one before.
+        self.verdicts: List[str] = []
         for folder in ("bin", "state", "standby", "publish", "etc/default", "etc/nginx/sites-enabled", "srv", "root", "home", "nginx", "examples", "tmp"):
             (room / folder).mkdir(parents=True)
         self.program = program
@@ -640,13 +642,25 @@ def never_allowed(machine: Machine) -> None:
     """The revoked image isn't allowed by the desk, old or new, at any time."""
     if listens(machine.port):
         status, verdict = machine.status("ann", "/verdict", machine.port, signed(2))
-        if status == 200 and b'"allowed"' in verdict:
-            fail("full-desk: a revoked image is allowed")
+        if status != 200 or b'"allowed"' in verdict:
+            fail(f"full-desk: a verdict on a revoked image: {status} {verdict.decode()}")
+        told = json.loads(verdict)["verdict"]
+        if told not in machine.verdicts[-1:]:
+            machine.verdicts.append(told)
+
+
+def judged(machine: Machine) -> None:
+    """The old desk gave a verdict on it, and the new one did before and after it revoked."""
+    if machine.verdicts != ["dbx-digest", "not-listed", "dbx-digest"]:
+        fail(f"full-desk: the verdicts on a revoked image: {', '.join(machine.verdicts)}")
 
 
 # After each command of a page, and after the last one.
 DURING = {"full-desk": never_allowed}
-AFTER = {"leaked-token": refused, "lost-officer": refused, "publishing": nobodys, "restore": same_again, "machine-lost": repeated}
+AFTER = {
+    "full-desk": judged, "leaked-token": refused, "lost-officer": refused, "publishing": nobodys, "restore": same_again,
+    "machine-lost": repeated,
+}
 
 
 def run_page(machine: Machine, name: str) -> Tuple[int, float]:
