@@ -398,14 +398,28 @@ rm lie.minutes
 # The published files are what the next ones are judged by: none is changed, emptied or gone, and so
 # are their sums. A fault is told by status 3.
 cp -a out kept
-for change in ': > dbx.esl' ': > SHA256SUMS' ': > dbx.esl; : > SHA256SUMS' ': > minutes.txt' ': > minutes.txt; : > dbx.esl; : > SHA256SUMS' 'rm level.csv' \
-    'echo spoiled > SHA256SUMS' 'printf "\377\n" >> SHA256SUMS' 'sed -i s/level.csv/level.txt/ SHA256SUMS' 'sed -i /db.esl/d SHA256SUMS' \
-    ': > audit.txt; sed -i "s/.*  audit.txt/$(sha256sum < /dev/null | cut -d" " -f1)  audit.txt/" SHA256SUMS' 'echo >> minutes.txt'; do
+number=0
+while IFS='|' read -r why change; do
+    number=$((number + 1))
     (cd out/published && chmod u+w ./* && eval "$change")
-    publish 3 'desk-publish: '
+    publish 3 "$why"
     rm -r out
     cp -a kept out
-done
+done << 'CHANGES'
+/dbx.esl isn't what was published: its SHA-256 |: > dbx.esl
+/audit.txt isn't what was published: its SHA-256 |: > SHA256SUMS
+/audit.txt isn't what was published: its SHA-256 |: > dbx.esl; : > SHA256SUMS
+/minutes.txt isn't what was published: audit.txt is of other files|: > minutes.txt
+/audit.txt isn't what was published: its SHA-256 |: > minutes.txt; : > dbx.esl; : > SHA256SUMS
+/level.csv: No such file or directory|rm level.csv
+/SHA256SUMS isn't what was published: no sum is 'spoiled'|echo spoiled > SHA256SUMS
+/SHA256SUMS isn't what was published: no sum is |printf "\377\n" >> SHA256SUMS
+/level.txt: No such file or directory|sed -i s/level.csv/level.txt/ SHA256SUMS
+/db.esl isn't what was published: its SHA-256 |sed -i /db.esl/d SHA256SUMS
+/minutes.txt isn't what was published: audit.txt is of other files|: > audit.txt; sed -i "s/.*  audit.txt/$(sha256sum < /dev/null | cut -d" " -f1)  audit.txt/" SHA256SUMS
+/minutes.txt isn't what was published: audit.txt is of other files|echo >> minutes.txt
+CHANGES
+[ "$number" -eq 12 ] || fail "only $number changes"
 rm -r kept
 shows 11
 
