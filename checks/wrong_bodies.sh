@@ -6,7 +6,8 @@
 # contract, and neither does one only by a limit of the prover, which gave no verdict: by rt's words
 # both count as not refused. The last lines are `L only by a lost name, P only by a limit of the
 # prover`, or that this rt tells no limit, and `N refused, M not`, where M includes these; the status
-# is 1 if one isn't refused or can't be applied.
+# is 1 if one isn't refused or can't be applied, and if there is none, or one of the same name in both
+# tiers.
 set -u
 . "$(dirname -- "$(readlink -f -- "$0")")/common.sh"
 needs rt
@@ -27,15 +28,17 @@ for crate in ${*:-$crates}; do
     bodies=$room/crates/$crate/must-fail
     mkdir -p "$bodies"
     for edit in "$top/checks/wrong_bodies/$crate/"*.edit; do
-        [ ! -e "$edit" ] || cp -n "$edit" "$bodies" || exit 1
+        [ -e "$edit" ] || continue
+        [ ! -e "$top/crates/$crate/must-fail/${edit##*/}" ] || fail "$crate has ${edit##*/} in both tiers"
+        cp "$edit" "$bodies" || exit 1
     done
     count=$(find "$bodies" -name '*.edit' | wc -l)
     wanted=$((wanted + count))
     [ "$count" = 0 ] || tried+=("$crate")
 done
 
-: > "$room/said"
-[ "${#tried[@]}" = 0 ] || (cd "$room" && rt must-fail "${tried[@]}" < /dev/null 2>&1) | tee "$room/said" | sed "s|$room/||g"
+[ "$wanted" -gt 0 ] || fail "of $* there is no wrong body"
+(cd "$room" && rt must-fail "${tried[@]}" < /dev/null 2>&1) | tee "$room/said" | sed "s|$room/||g"
 # said_so WORDS: of how many bodies rt says that they are refused, in these words too.
 said_so() { grep -c "^rt: must-fail .*: refused, as it must be$1" "$room/said"; }
 by_name=$(said_so '.*only because a proof file names')
