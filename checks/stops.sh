@@ -45,15 +45,18 @@ needs cc python3
 find_program "$@"
 [ $# -eq 0 ] || shift
 enter_room
-# What a disk keeps is modelled, so the desks are in memory, where there is such a place.
-[ ! -w /dev/shm ] || memory=/dev/shm
+# What a disk keeps is modelled, so the desks are in memory, where there is such a place. By its real
+# path, by which stop.c knows a desk's files.
+place=${TMPDIR:-/tmp}
+[ ! -w /dev/shm ] || place=/dev/shm
+place=$(readlink -f -- "$place")
 for library in stop fail; do cc -shared -fPIC -O1 -o "$room/$library.so" "$root/checks/$library.c" -ldl; done
 
 # stops PROGRAM [CASE [WAY NUMBER]]
 stops() {
     desk=$1
     shift
-    TMPDIR=${memory-${TMPDIR:-/tmp}} within 1000 python3 -B "$root/checks/requests/stops.py" "$desk" "$room/stop.so" "$room/fail.so" "$root" "$@"
+    TMPDIR=$place within 1000 python3 -B "$root/checks/requests/stops.py" "$desk" "$room/stop.so" "$room/fail.so" "$root" "$@"
 }
 
 stops "$program" "$@"
