@@ -17,35 +17,7 @@ enter_room
 
 # ---- a desk's minutes
 
-# asks NAME KEY PATH FILE [FIELD]: posts the file, which has to be accepted.
-asks() {
-    {
-        printf 'POST %s HTTP/1.1\r\nDesk-Token: %s-token-for-audits\r\nDesk-Key: %s\r\n' "$3" "$1" "$2"
-        [ -z "${5:-}" ] || printf '%s\r\n' "$5"
-        printf 'Content-Length: %s\r\n\r\n' "$(wc -c < "$4")"
-        cat "$4"
-    } > request
-    "$program" answer desk.db < request > response
-    tail -n 1 response | grep -q '"reply"' || fail "$3 by $1: $(cat response)"
-}
-: > none
-"$program" init desk.db "$owner"
-for person in ann/submitter rita/reviewer raul/reviewer sid/signer olga/officer otto/officer; do
-    name=${person%/*}
-    echo "$name-token-for-audits" | "$program" person desk.db "$name" "${person#*/}" "k-$name" > said
-done
-echo '{"note":"read it","vote":"yes"}' > yes
-printf '{"digest":"%064d"}' 7 > digest
-echo '{"component":"grub","generation":3,"stamp":2024010100}' > raise
-asks ann k1 /requests "$root/examples/signed.efi" 'Desk-Title: a signed loader'
-asks rita k1 /requests/1/review yes
-asks raul k1 /requests/1/review yes
-asks olga k1 /db/certificates "$root/examples/certificate.der"
-asks sid k1 /requests/1/return "$root/examples/signed.efi"
-asks olga k2 /dbx/digests digest
-asks otto k1 /proposals/1/confirm none
-asks olga k3 /level raise
-asks otto k2 /proposals/2/confirm none
+afternoon desk.db "$owner"
 "$program" minutes desk.db > minutes
 lines=$(wc -l < minutes)
 

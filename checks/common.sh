@@ -88,6 +88,54 @@ audited() {
     run 0 audited.lines '' /dev/null audit "$1" audited.minutes
 }
 
+# ---- requests, and a desk that has some calls
+
+# posted TOKEN KEY PATH FILE [FIELD..]: writes the request by which the holder of the token posts the
+# file.
+posted() (
+    printf 'POST %s HTTP/1.1\r\nDesk-Token: %s\r\nDesk-Key: %s\r\n' "$3" "$1" "$2"
+    body=$4
+    shift 4
+    for field in "$@"; do printf '%s\r\n' "$field"; done
+    printf 'Content-Length: %s\r\n\r\n' "$(wc -c < "$body")"
+    cat "$body"
+)
+
+# accepts DB NAME KEY PATH FILE [FIELD..]: the desk accepts what this person posts, whose token is
+# NAME-token-for-the-desk. The answer is in `response`.
+accepts() {
+    desk=$1 name=$2 key=$3 path=$4
+    shift 4
+    posted "$name-token-for-the-desk" "$key" "$path" "$@" > request
+    "$program" answer "$desk" < request > response || fail "$path by $name: $(cat response)"
+    if ! head -n 1 response | grep -q ' 200 ' || ! tail -n 1 response | grep -q '"reply"'; then
+        fail "$path by $name: $(cat response)"
+    fi
+}
+
+# afternoon DB OWNER: makes a desk, with six people, a request, its reviews and its return, a listing,
+# and a digest and a generation that two officers revoked. The files `digest` and `none` are bodies.
+afternoon() {
+    "$program" init "$1" "$2"
+    for person in ann/submitter rita/reviewer raul/reviewer sid/signer olga/officer otto/officer; do
+        name=${person%/*}
+        echo "$name-token-for-the-desk" | "$program" person "$1" "$name" "${person#*/}" "k-$name" > said
+    done
+    : > none
+    echo '{"note":"read it","vote":"yes"}' > yes
+    printf '{"digest":"%064d"}' 7 > digest
+    echo '{"component":"grub","generation":3,"stamp":2024010100}' > raise
+    accepts "$1" ann k1 /requests "$root/examples/signed.efi" 'Desk-Title: a signed loader'
+    accepts "$1" rita k1 /requests/1/review yes
+    accepts "$1" raul k1 /requests/1/review yes
+    accepts "$1" olga k1 /db/certificates "$root/examples/certificate.der"
+    accepts "$1" sid k1 /requests/1/return "$root/examples/signed.efi"
+    accepts "$1" olga k2 /dbx/digests digest
+    accepts "$1" otto k1 /proposals/1/confirm none
+    accepts "$1" olga k3 /level raise
+    accepts "$1" otto k2 /proposals/2/confirm none
+}
+
 # ---- the desk's server
 
 is_running() { [ -e "/proc/$1/exe" ]; }

@@ -221,12 +221,7 @@ asked() {
 posts() {
     answer=$1 json=$2 name=$3 key=$4 path=$5 body=$6
     shift 6
-    {
-        printf 'POST %s HTTP/1.1\r\nDesk-Token: %s\r\nDesk-Key: %s\r\n' "$path" "$(cat "$name")" "$key"
-        for field in "$@"; do printf '%s\r\n' "$field"; done
-        printf 'Content-Length: %s\r\n\r\n' "$(wc -c < "$body")"
-        cat "$body"
-    } > request
+    posted "$(cat "$name")" "$key" "$path" "$body" "$@" > request
     asked "$answer" "$json"
 }
 # reads NAME PATH: prepares this person's GET.

@@ -27,11 +27,7 @@ same() {
 keys=0
 posts() {
     keys=$((keys + 1))
-    {
-        printf 'POST %s HTTP/1.1\r\nDesk-Token: %s-token-for-exports\r\nDesk-Key: k%s\r\n' "$3" "$2" "$keys"
-        printf 'Content-Length: %s\r\n\r\n' "$(wc -c < "$4")"
-        cat "$4"
-    } > request
+    posted "$2-token-for-exports" "k$keys" "$3" "$4" > request
     "$program" answer desk.db < request > response
     [ "$(tail -n 1 response)" = "$1" ] || fail "$3 by $2: $(cat response)"
 }

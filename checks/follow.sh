@@ -15,42 +15,13 @@ find_program "$@"
 owner=00112233-4455-6677-8899-aabbccddeeff
 other=fa31923d-6047-40bf-81d0-e63edefcf194
 enter_room
-: > none
 
 # ---- the desk that is lost
-
-# asks DB NAME KEY PATH FILE [FIELD]: posts the file, which has to be accepted.
-asks() {
-    {
-        printf 'POST %s HTTP/1.1\r\nDesk-Token: %s-token-for-the-desk\r\nDesk-Key: %s\r\n' "$4" "$2" "$3"
-        [ -z "${6:-}" ] || printf '%s\r\n' "$6"
-        printf 'Content-Length: %s\r\n\r\n' "$(wc -c < "$5")"
-        cat "$5"
-    } > request
-    "$program" answer "$1" < request > response
-    tail -n 1 response | grep -q '"reply"' || fail "$4 by $2: $(cat response)"
-}
 
 # keeps DB: the file, without a log. It changes only if the desk does.
 keeps() { sha256sum < "$1"; }
 
-"$program" init lost.db "$owner"
-for person in ann/submitter rita/reviewer raul/reviewer sid/signer olga/officer otto/officer; do
-    name=${person%/*}
-    echo "$name-token-for-the-desk" | "$program" person lost.db "$name" "${person#*/}" "k-$name" > said
-done
-echo '{"note":"read it","vote":"yes"}' > yes
-printf '{"digest":"%064d"}' 7 > digest
-echo '{"component":"grub","generation":3,"stamp":2024010100}' > raise
-asks lost.db ann k1 /requests "$root/examples/signed.efi" 'Desk-Title: a signed loader'
-asks lost.db rita k1 /requests/1/review yes
-asks lost.db raul k1 /requests/1/review yes
-asks lost.db olga k1 /db/certificates "$root/examples/certificate.der"
-asks lost.db sid k1 /requests/1/return "$root/examples/signed.efi"
-asks lost.db olga k2 /dbx/digests digest
-asks lost.db otto k1 /proposals/1/confirm none
-asks lost.db olga k3 /level raise
-asks lost.db otto k2 /proposals/2/confirm none
+afternoon lost.db "$owner"
 "$program" minutes lost.db > minutes
 lines=$(wc -l < minutes)
 second=$(grep -n 'proposed 1$' minutes | cut -d : -f 1)
@@ -100,7 +71,7 @@ done
 cp lost.db copied.db
 for number in 0 1 2 3 4 5 6 7 8 9; do
     printf '{"digest":"%064d"}' "$((number + 10))" > entry
-    asks lost.db olga "n$number" /db/digests entry
+    accepts lost.db olga "n$number" /db/digests entry
 done
 "$program" minutes lost.db > longer
 [ "$(wc -l < longer)" -eq $((lines + 10)) ] || fail 'there are no ten new lines'
@@ -111,10 +82,10 @@ for desk in standby copied; do
 done
 cp standby.db served.db
 printf '{"digest":"%064d"}' 99 > entry
-asks served.db olga k4 /dbx/digests entry
+accepts served.db olga k4 /dbx/digests entry
 # (what the lost desk answered is answered again)
-asks served.db olga k2 /dbx/digests digest
-asks served.db otto k3 /proposals/3/confirm none
+accepts served.db olga k2 /dbx/digests digest
+accepts served.db otto k3 /proposals/3/confirm none
 "$program" minutes served.db > on
 [ "$(wc -l < on)" -eq $((lines + 12)) ] || fail 'the standby has other minutes'
 audited "$owner" served.db
@@ -182,8 +153,8 @@ status=0
 gzip -dc "$root/examples/version-1/desk.db.gz" > first.db
 "$program" minutes first.db > first
 printf '{"digest":"%064d"}' 98 > entry
-asks first.db olga m1 /db/digests entry
-asks first.db olga m2 /dbx/digests entry
+accepts first.db olga m1 /db/digests entry
+accepts first.db olga m2 /dbx/digests entry
 "$program" minutes first.db > both
 told first.db both
 run 0 told '' none follow migrated.db "$owner" both

@@ -28,19 +28,8 @@ found=0
 
 # ---- the desk
 
-# called NAME KEY PATH BODY [FIELD..]: this person's call, accepted; its reply is in `reply`.
-called() {
-    name=$1 key=$2 path=$3 body=$4
-    shift 4
-    {
-        printf 'POST %s HTTP/1.1\r\nDesk-Token: %s-token-for-the-desk\r\nDesk-Key: %s\r\n' "$path" "$name" "$key"
-        for field in "$@"; do printf '%s\r\n' "$field"; done
-        printf 'Content-Length: %s\r\n\r\n' "$(wc -c < "$body")"
-        cat "$body"
-    } > request
-    "$program" answer desk.db < request > response || fail "$name at $path: $(cat response)"
-    head -n 1 response | grep -q ' 200 ' || fail "$name at $path: $(cat response)"
-}
+# called NAME KEY PATH BODY [FIELD..]: this person's call, accepted.
+called() { accepts desk.db "$@"; }
 text() { printf '%s' "$1" > body; }
 
 # A desk that lies where a file lie.SUBCOMMAND says what it prints; and a desk(1) without `audit`.

@@ -19,8 +19,8 @@ openings=0
 
 # ask DB KEY PATH BODY: the last line of the answer to olga's request.
 ask() {
-    printf 'POST %s HTTP/1.1\r\nHost: desk\r\nDesk-Token: olga-token-for-the-desk\r\nDesk-Key: %s\r\nContent-Length: %s\r\n\r\n%s' \
-        "$3" "$2" "${#4}" "$4" | "$program" answer "$1" | tail -n 1
+    printf %s "$4" > asked
+    posted olga-token-for-the-desk "$2" "$3" asked | "$program" answer "$1" | tail -n 1
 }
 
 # opened STATUS WORD..: the subcommand opens a copy of the file, which then has the dbx and the minutes
@@ -42,13 +42,11 @@ opened() {
 # requested NAME METHOD PATH [KEY FILE [FIELD]]: the server's response to this person's request.
 requested() {
     exec 3<> "/dev/tcp/127.0.0.1/$port"
-    {
-        printf '%s %s HTTP/1.1\r\nDesk-Token: %s-token-for-the-desk\r\n' "$2" "$3" "$1"
-        if [ $# -gt 3 ]; then printf 'Desk-Key: %s\r\nContent-Length: %s\r\n' "$4" "$(wc -c < "$5")"; fi
-        if [ $# -gt 5 ]; then printf '%s\r\n' "$6"; fi
-        printf '\r\n'
-        if [ $# -gt 4 ]; then cat "$5"; fi
-    } >&3
+    if [ "$2" = POST ]; then
+        posted "$1-token-for-the-desk" "$4" "$3" "${@:5}" >&3
+    else
+        printf '%s %s HTTP/1.1\r\nDesk-Token: %s-token-for-the-desk\r\n\r\n' "$2" "$3" "$1" >&3
+    fi
     timeout 60 cat <&3
     exec 3>&-
 }
