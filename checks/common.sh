@@ -140,8 +140,8 @@ afternoon() {
 
 is_running() { [ -e "/proc/$1/exe" ]; }
 
-# listens PROCESS PORT: whether the process, or its child, listens at this port of 127.0.0.1. By the
-# system's lists: a connection would be one of those that are counted.
+# listens PROCESS PORT: whether the process, or its child, listens at this port of 127.0.0.1, as
+# requests/ports.py tells it, without a run of Python for each look.
 listens() {
     inode=$(awk -v at="$(printf '0100007F:%04X' "$2")" '$2 == at && $4 == "0A" { print $10 }' /proc/net/tcp)
     [ -n "$inode" ] || return 1

@@ -13,7 +13,7 @@ import sys
 import tempfile
 import time
 
-from ports import Held, end_with_parent
+from ports import Held, end_with_parent, listens
 
 OWNER = "00112233-4455-6677-8899-aabbccddeeff"
 STORED = bytes.fromhex("33221100554477668899aabbccddeeff")
@@ -293,27 +293,6 @@ class Program:
         lines = [f"calls {exports['minutes'].count(10)}", *(f"{name} {sha256(data)}" for name, data in exports.items())]
         told = self.gives("audit", OWNER, "-", given=exports["minutes"])
         expect(told, "".join(f"{line}\n" for line in lines).encode(), "an audit")
-
-
-def sockets(process: int) -> set[str]:
-    """The inodes of the sockets that a process holds."""
-    found = set()
-    try:
-        for file in os.scandir(f"/proc/{process}/fd"):
-            kind, _, inode = os.readlink(file.path).partition(":")
-            if kind == "socket":
-                found.add(inode.strip("[]"))
-    except FileNotFoundError:
-        pass  # (a file that was closed meanwhile, or the whole process)
-    return found
-
-
-def listens(process: int, port: int) -> bool:
-    """Whether the process listens at this port, by the system's lists: a connection would be one of those that are counted."""
-    with open("/proc/net/tcp", encoding="ascii") as table:
-        rows = [line.split() for line in table]
-    inodes = {it[9] for it in rows if it[1] == f"0100007F:{port:04X}" and it[3] == "0A"}
-    return bool(inodes & sockets(process))
 
 
 class Server:

@@ -1,7 +1,8 @@
 """Ports of 127.0.0.1 for servers that begin later, or again. A held port is bound to a socket that doesn't listen: the system gives its number
 to nobody else, whoever connects is refused, and a server that sets SO_REUSEADDR, as the desk's and nginx do, listens there.
-`python3 ports.py COUNT` prints so many and holds them until it or its parent ends."""
+`python3 ports.py COUNT` prints so many and holds them until it or its parent ends. And who listens at a port."""
 import ctypes
+import os
 import signal
 import socket
 import sys
@@ -23,6 +24,31 @@ class Held:
 
     def let_go(self) -> None:
         self.socket.close()
+
+
+def listening(port: int) -> set[str]:
+    """The inodes of the sockets that listen at this port, by the system's lists: a connection would be one of those that are counted."""
+    with open("/proc/net/tcp", encoding="ascii") as table:
+        rows = [line.split() for line in table]
+    return {it[9] for it in rows if it[1] == f"0100007F:{port:04X}" and it[3] == "0A"}
+
+
+def sockets(process: int) -> set[str]:
+    """The inodes of the sockets that a process holds."""
+    found = set()
+    try:
+        for file in os.scandir(f"/proc/{process}/fd"):
+            kind, _, inode = os.readlink(file.path).partition(":")
+            if kind == "socket":
+                found.add(inode.strip("[]"))
+    except FileNotFoundError:
+        pass  # (a file that was closed meanwhile, or the whole process)
+    return found
+
+
+def listens(process: int, port: int) -> bool:
+    """Whether the process listens at this port."""
+    return bool(listening(port) & sockets(process))
 
 
 if __name__ == "__main__":

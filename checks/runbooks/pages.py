@@ -23,7 +23,7 @@ from typing import Any, Callable, Dict, List, NamedTuple, NoReturn, Optional, Tu
 
 ROOT = Path(__file__).resolve().parents[2]
 sys.path.insert(0, str(ROOT / "checks" / "requests"))
-from ports import Held  # noqa: E402
+from ports import Held, listening  # noqa: E402
 
 OWNER = "00112233-4455-6677-8899-aabbccddeeff"
 PEOPLE = {"ann": "submitter", "rita": "reviewer", "raul": "reviewer", "sid": "signer", "olga": "officer", "otto": "officer"}
@@ -41,15 +41,9 @@ def fail(text: str) -> NoReturn:
     sys.exit(f"checks/runbooks.sh: {text}")
 
 
-def listens(port: int) -> bool:
-    """Whether somebody listens there: a connection to find out would be one of those that are counted."""
-    rows = [line.split() for line in Path("/proc/net/tcp").read_text().splitlines()[1:]]
-    return any(row[1].endswith(f":{port:04X}") and row[3] == "0A" for row in rows)
-
-
 def until_listens(port: int) -> None:
     ends = time.monotonic() + 60
-    while not listens(port):
+    while not listening(port):
         if time.monotonic() > ends:
             fail(f"nobody listens at port {port}")
         time.sleep(0.02)
@@ -341,7 +335,7 @@ class Machine:
         for process in (supervisor, *map(int, children)):
             os.kill(process, signal.SIGKILL)
         (self.room / "supervise.pid").unlink()
-        while listens(self.port):
+        while listening(self.port):
             time.sleep(0.02)
 
     def system(self, *words: str) -> None:
@@ -640,7 +634,7 @@ def nobodys(machine: Machine) -> None:
 
 def never_allowed(machine: Machine) -> None:
     """The revoked image isn't allowed by the desk, old or new, at any time."""
-    if listens(machine.port):
+    if listening(machine.port):
         status, verdict = machine.status("ann", "/verdict", machine.port, signed(2))
         if status != 200 or b'"allowed"' in verdict:
             fail(f"full-desk: a verdict on a revoked image: {status} {verdict.decode()}")
