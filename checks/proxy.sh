@@ -201,12 +201,13 @@ cat > slow.py << 'end'
 import os, socket, ssl, sys, time
 
 port, site, how, given, go, out = sys.argv[1:]
-until = time.monotonic() + 20
+until = time.monotonic() + 120
 
 
-def pause():
-    while not os.path.exists(go) and time.monotonic() < until:
-        time.sleep(0.05)
+def waits():
+    """Twice a second, until it may go on."""
+    time.sleep(0.5)
+    return not os.path.exists(go) and time.monotonic() < until
 
 
 peer = socket.socket()
@@ -222,7 +223,13 @@ half = len(request) // 2 if how == "sends" else len(request)
 peer.sendall(request[:half])
 begun = b"" if how == "sends" else peer.recv(1000)
 print(len(begun), flush=True)
-pause()
+# At nginx a little now and then: it ends a peer that does nothing for half a minute.
+while waits():
+    if site and how == "takes":
+        begun += peer.recv(2000)
+    elif site and half < len(request) - 1:
+        peer.sendall(request[half : half + 1])
+        half += 1
 peer.sendall(request[half:])
 with open(out, "wb") as file:
     file.write(begun)
@@ -239,10 +246,10 @@ printf 'GET /dbx HTTP/1.1\r\nHost: %s\r\nDesk-Token: %s\r\nConnection: close\r\n
 # the file go.HOW is there. SITE: that of TLS, or none.
 begins() {
     rm -f "go.$1" "begun.$1" "came.$1"
-    timeout -k 5 80 python3 slow.py "$2" "$3" "$1" "$1" "go.$1" "came.$1" > "begun.$1" 2> "slow.$1" &
+    timeout -k 5 200 python3 slow.py "$2" "$3" "$1" "$1" "go.$1" "came.$1" > "begun.$1" 2> "slow.$1" &
     peer=$!
     started="$started $peer"
-    soon 10 test -s "begun.$1"
+    soon 60 test -s "begun.$1"
 }
 # got HOW: the slow peer's response, which must be its own: of a head, its first line and the body.
 got() {
@@ -257,9 +264,11 @@ for how in sends takes; do
     serve desk.db 2
     begins "$how" "$port" ''
     slow=$peer
-    curl -sS --max-time 60 -H "Desk-Token: $(token_of olga)" -o held "http://127.0.0.1:$port/level" &
+    curl -sSv --max-time 60 -H "Desk-Token: $(token_of olga)" -o held "http://127.0.0.1:$port/level" 2> asked &
     taker=$!
     started="$started $taker"
+    # (a busy machine takes its time to send it)
+    soon 60 grep -q '^> GET /level' asked
     sleep 2
     [ ! -e held ] || fail "without the proxy nobody waits for the one that $how"
     : > "go.$how"
