@@ -11,8 +11,9 @@ from desk import CERTIFICATE, OWNER, PEOPLE, PLAIN, SIGNED, Program, Server, cha
 
 ROOT = os.path.dirname(os.path.dirname(os.path.dirname(os.path.abspath(__file__))))
 ROUNDS = 120
-# Between two commands, so that the day is longer than the standby's first runs.
-PAUSE = 0.01
+# Between two commands, so that the standby follows some of them. The last third of the day waits until it has followed twice: it takes
+# longer than the second within which the desk is then killed.
+PAUSE, TWICE = 0.01, 2
 
 
 def day():
@@ -43,7 +44,7 @@ class Standby:
             f"{ROOT}/packaging/desk-standby", self.db, self.minutes, "--owner", OWNER, "--url", f"http://127.0.0.1:{port}", "--token-file", key,
             "--program", program.path,
         ]
-        self.ends, self.runs = threading.Event(), 0
+        self.ends, self.runs, self.has_followed = threading.Event(), 0, threading.Event()
         self.thread = threading.Thread(target=self.follow, daemon=True)
         self.thread.start()
 
@@ -56,7 +57,11 @@ class Standby:
             if done.returncode:
                 break
             self.runs += 1
+            if self.runs == TWICE:
+                self.has_followed.set()
             self.ends.wait(1)
+        # (a run that failed is told at the end)
+        self.has_followed.set()
 
     def let_go(self):
         self.ends.set()
@@ -100,8 +105,7 @@ def torn(program, server, standby, wanted):
 
 def kills(server, standby):
     """Kills the server at some moment after the standby has followed twice."""
-    while standby.runs < 2 and standby.thread.is_alive():
-        time.sleep(0.01)
+    standby.has_followed.wait()
     time.sleep(random.random())
     server.process.kill()
 
@@ -115,6 +119,8 @@ def works(server, steps, standby=None):
     for at, step in enumerate(steps):
         if killer is not None:
             time.sleep(PAUSE)
+            if at == len(steps) * 2 // 3:
+                standby.has_followed.wait()
         try:
             answer = server.ask(step.given)
         except OSError:
@@ -152,7 +158,7 @@ def main():
         if not told.startswith(b"calls %d\n" % lines):
             fail(f"follow of {lines} lines told {told!r}")
         followed = lines - len(PEOPLE)
-        if standby.runs < 2 or followed < 1:
+        if standby.runs < TWICE or followed < 1:
             fail(f"the standby followed {standby.runs} times, {followed} commands")
         # At most the one that was under way is there without an answer.
         committed = program.minutes(lost).count(b"\n") - len(PEOPLE)
