@@ -171,37 +171,52 @@ done
 # ---- runs that are killed
 
 cat > kill.py <<'EOF'
-"""Kills a run over the minutes at random moments, and then lets one finish: kill.py PROGRAM OWNER MINUTES KILLS."""
+"""Kills runs over the minutes at random moments: kill.py PROGRAM OWNER MINUTES KILLS."""
+import os
 import random
+import signal
 import subprocess
 import sys
 import time
 
 program, owner, minutes, kills = sys.argv[1], sys.argv[2], sys.argv[3], int(sys.argv[4])
 words = [program, "follow", "killed.db", owner, minutes]
+with open(minutes, "rb") as it:
+    text = it.read()
 begun = time.monotonic()
 subprocess.run([program, "level", "standby.db"], check=True, stdout=subprocess.DEVNULL)
-# (twice as long while no line is followed: the machine is busy)
+# A run is killed within so many seconds: within twice as many after twenty runs that followed no line, and within half as many after one
+# that followed all of them, since the machine may be busy now and then.
 most = 4 * (time.monotonic() - begun)
-grown, last = 0, 0
-for number in range(kills):
-    run = subprocess.Popen(words, stdout=subprocess.DEVNULL, stderr=subprocess.DEVNULL)
+killed, grown, last, anew = 0, 0, 0, 0
+while killed < kills:
+    run = subprocess.Popen(words, stdout=subprocess.DEVNULL, stderr=subprocess.PIPE)
     time.sleep(random.uniform(0, most))
     run.kill()
-    if run.wait() == 0:
-        sys.exit(f"run {number} ended before it was killed: there are too few lines")
-    if number % 20 == 19:
+    err = run.communicate()[1]
+    if run.returncode == 0:
+        anew += 1
+        if anew > 20:
+            sys.exit(f"{anew} runs ended before they were killed: there are too few lines")
+        for end in ("", "-wal"):
+            if os.path.exists(f"killed.db{end}"):
+                os.remove(f"killed.db{end}")
+        most, last = most / 2, 0
+        continue
+    if run.returncode != -signal.SIGKILL:
+        sys.exit(f"after {killed} kills a run has the status {run.returncode}: {err!r}")
+    killed += 1
+    if killed % 20 == 0:
         told = subprocess.run([program, "minutes", "killed.db"], check=False, capture_output=True)
         count = told.stdout.count(b"\n")
-        with open(minutes, "rb") as it:
-            if told.returncode == 0 and not it.read().startswith(told.stdout):
-                sys.exit(f"after {number + 1} kills the desk has other minutes")
+        if told.returncode == 0 and not text.startswith(told.stdout):
+            sys.exit(f"after {killed} kills the desk has other minutes")
         if count < last:
-            sys.exit(f"after {number + 1} kills a followed line is lost")
+            sys.exit(f"after {killed} kills a followed line is lost")
         if count == last:
             most *= 2
         grown, last = grown + (count > last), count
-print(last, "lines stood after", kills, "kills")
+print(last, "lines stood after", killed, "kills")
 if not grown:
     sys.exit("no run followed a line before it was killed")
 EOF
