@@ -7,8 +7,10 @@
 #define _GNU_SOURCE
 #include <dlfcn.h>
 #include <fcntl.h>
+#include <malloc.h>
 #include <stdio.h>
 #include <stdlib.h>
+#include <string.h>
 #include <sys/mman.h>
 #include <sys/socket.h>
 #include <unistd.h>
@@ -95,6 +97,16 @@ void *malloc(size_t size) {
     return refuses(size) ? NULL : next(size);
 }
 
+/* (by the next malloc: the search for a calloc may need one) */
+void *calloc(size_t count, size_t size) {
+    static void *(*next)(size_t);
+    size_t whole;
+    if (!next) next = (void *(*)(size_t))dlsym(RTLD_NEXT, "malloc");
+    if (__builtin_mul_overflow(count, size, &whole) || refuses(whole)) return NULL;
+    void *at = next(whole);
+    return at ? memset(at, 0, whole) : NULL;
+}
+
 void *realloc(void *at, size_t size) {
     static void *(*next)(void *, size_t);
     if (!next) next = (void *(*)(void *, size_t))dlsym(RTLD_NEXT, "realloc");
@@ -112,3 +124,12 @@ int posix_memalign(void **at, size_t alignment, size_t size) {
     if (!next) next = (int (*)(void **, size_t, size_t))dlsym(RTLD_NEXT, "posix_memalign");
     return refuses(size) ? 12 : next(at, alignment, size);
 }
+
+/* The program calls none of these, so that none is refused: a run that does has no result. */
+void *memalign(size_t alignment, size_t size) { abort(); }
+
+void *valloc(size_t size) { abort(); }
+
+void *pvalloc(size_t size) { abort(); }
+
+void *reallocarray(void *at, size_t count, size_t size) { abort(); }
