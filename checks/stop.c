@@ -14,6 +14,7 @@
 #include <fcntl.h>
 #include <limits.h>
 #include <signal.h>
+#include <stdarg.h>
 #include <stdint.h>
 #include <stdio.h>
 #include <stdlib.h>
@@ -149,6 +150,41 @@ static int sync_of(const char *name, int fd) {
 int fsync(int fd) { return sync_of("fsync", fd); }
 
 int fdatasync(int fd) { return sync_of("fdatasync", fd); }
+
+/* Calls that change a file, at which no stop is: the desk makes none on its files, and a run that does has no result. */
+static void unseen(const char *what, int fd) {
+    if (file_of(fd) <= LOG) fail(what);
+}
+
+int open(const char *path, int flags, ...) {
+    va_list rest;
+    va_start(rest, flags);
+    mode_t mode = flags & (O_CREAT | O_TMPFILE) ? va_arg(rest, mode_t) : 0;
+    va_end(rest);
+    int fd = NEXT(open)(path, flags, mode);
+    if (fd >= 0 && flags & O_TRUNC) unseen("stop.c: open cuts a file\n", fd);
+    return fd;
+}
+
+int fallocate(int fd, int mode, off_t at, off_t length) {
+    unseen("stop.c: fallocate\n", fd);
+    return NEXT(fallocate)(fd, mode, at, length);
+}
+
+int posix_fallocate(int fd, off_t at, off_t length) {
+    unseen("stop.c: posix_fallocate\n", fd);
+    return NEXT(posix_fallocate)(fd, at, length);
+}
+
+ssize_t pwritev2(int fd, const struct iovec *from, int count, off_t at, int flags) {
+    unseen("stop.c: pwritev2\n", fd);
+    return NEXT(pwritev2)(fd, from, count, at, flags);
+}
+
+ssize_t copy_file_range(int from, off64_t *at, int fd, off64_t *to, size_t size, unsigned flags) {
+    unseen("stop.c: copy_file_range\n", fd);
+    return NEXT(copy_file_range)(from, at, fd, to, size, flags);
+}
 
 /* A read isn't counted. It fails after the stop, if its file's calls do. */
 static int unread(int fd) {
