@@ -107,7 +107,7 @@ has_places nginx.conf site.conf "server 127.0.0.1:$port;" "$listen" "$room/site.
 } > nginx.conf
 "$nginx" -t -q -p "$room/" -e "$room/error.log" -c nginx.conf 2> said || fail "nginx -t: $(cat said)"
 if [ -s said ] || [ -s error.log ]; then fail "nginx -t: $(cat said)"; fi
-timeout -k 5 400 "$nginx" -p "$room/" -e "$room/error.log" -c nginx.conf &
+timeout -k 5 900 "$nginx" -p "$room/" -e "$room/error.log" -c nginx.conf &
 proxy=$!
 until_listens "$proxy" "$tls" || fail 'nginx ended'
 
