@@ -226,7 +226,7 @@ print(len(begun), flush=True)
 # At nginx a little now and then: it ends a peer that does nothing for half a minute.
 while waits():
     if site and how == "takes":
-        begun += peer.recv(2000)
+        begun += peer.recv(1000)
     elif site and half < len(request) - 1:
         peer.sendall(request[half : half + 1])
         half += 1
@@ -288,6 +288,9 @@ begins sends "$tls" "$site"
 slow=$peer
 begins takes "$tls" "$site"
 taker=$peer
+# The desk has nobody's connection, before its own limit of half a minute would end one.
+desk_is_idle() { [ -z "$(awk -v at="$(printf '0100007F:%04X' "$port")" '$2 == at && ($4 == "01" || $4 == "08")' /proc/net/tcp)" ]; }
+soon 25 desk_is_idle
 # one NUMBER: a client at an address of its own requests the level, and a verdict.
 one() {
     address=127.0.0.$(($1 + 1))
