@@ -22,6 +22,12 @@ class Elsewhere(http.server.BaseHTTPRequestHandler):
         pass
 
 
+def is_done(browser: Browser, told: str) -> bool:
+    """Whether this is told. The page asks again some times by itself, and then, where the proxy is slow to begin, by its button."""
+    browser.script("for (const it of document.querySelectorAll('button')) if (it.textContent === 'Ask again') it.click()")
+    return told in browser.text()
+
+
 def leaves_nothing(browser: Browser, place: Place) -> None:
     """An answer that comes when its view is left stands above every view, until its person signs out. One that comes later is heard by
     nobody. The history has numbers alone."""
@@ -36,7 +42,7 @@ def leaves_nothing(browser: Browser, place: Place) -> None:
     browser.sees("Check an image")
     place.stop_proxy()
     place.start_proxy()
-    browser.sees(f"Vote yes on request {first}: done.")
+    until(60, "the vote is done", lambda: is_done(browser, f"Vote yes on request {first}: done."), browser.text)
     browser.sign_in(token("raul"))
     if "done." in browser.text():
         fail("the next person sees what the one before did")
