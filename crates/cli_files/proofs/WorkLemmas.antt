@@ -1,5 +1,5 @@
 -- A verdict on an image, by its facts.
-use Rattle.std.proofs.Common.{◌≡◌, ◌≢◌, Option, ℕ, List, Result, Ok, Err, inl, inr, subst, sym}
+use Rattle.std.proofs.Common.{◌≡◌, ◌≢◌, Option, ℕ, List, Result, Ok, Err, inl, inr}
 use Rattle.std.specs.Prelude.{IfErr, IfOk, OnErr, OnOk}
 use Rattle.std.specs.Io.KnownBytes.{Appends, Keeps}
 use Rattle.std.proofs.KnownBytes.{Keeps-refl}
@@ -17,6 +17,7 @@ use Rattle.desk_store.specs.Desks.{ForEachShown}
 use Rattle.desk_store.specs.Exports.{WritesBeginning}
 use Rattle.desk_store.specs.declared.desk.Desk.{Desk}
 use Rattle.desk_texts.specs.declared.facts.Facts.{Facts}
+use Rattle.cli_opening.proofs.EndingLemmas.{keeps_same}
 use Rattle.cli_files.specs.Works.{JudgesImage, StopsVerdict}
 use Rattle.cli_commands.specs.Works.{outcome_of}
 use Rattle.cli_lines.specs.declared.ending.Outcome.{Outcome}
@@ -40,8 +41,7 @@ pub silent_of : {W : Type 0} (contents : W → Option (List ℕ)) (before after 
     → IfErr work (λ fault. fault ≢ row_of refusals.Write → after ≡ before)
     → IfErr work (λ fault. fault ≢ row_of refusals.Write → Keeps (contents before) (contents after))
 silent_of contents before after (Ok outcome) unwritten = tt
-silent_of contents before after (Err fault) unwritten = λ other.
-    subst (λ w. Keeps (contents before) (contents w)) (sym (unwritten other)) (Keeps-refl (contents before))
+silent_of contents before after (Err fault) unwritten = λ other. keeps_same contents before after (unwritten other)
 
 -- a verdict on these facts stopped
 pub stopped : {S W : Type 0} (g : store.Ghosts S) (old new : Desk S) (contents : W → Option (List ℕ)) (before after : W) (work : Result Outcome Fault)
@@ -52,6 +52,6 @@ pub stopped : {S W : Type 0} (g : store.Ghosts S) (old new : Desk S) (contents :
     → IfErr work (StopsVerdict g old new (contents before) (contents after))
 stopped g old new contents before after (Ok outcome) found of unwritten begins = tt
 stopped g old new contents before after (Err fault) found of unwritten begins = record {
-  unwritten = λ other. subst (λ w. Keeps (contents before) (contents w)) (sym (unwritten other)) (Keeps-refl (contents before));
+  unwritten = λ other. keeps_same contents before after (unwritten other);
   beginning = inr (record { image = of.0; found = found; facts = of.1; begins = begins });
 }
