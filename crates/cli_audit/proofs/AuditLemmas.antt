@@ -1,5 +1,5 @@
 -- The end of an audit, from that of its parts.
-use Rattle.std.proofs.Common.{◌≡◌, ◌∙◌, ℕ, List, [], Option, None, Some, Result, Ok, Err, IfErr, IfSome, OnErr, OnOk, inl, inr, refl, sym, ap}
+use Rattle.std.proofs.Common.{◌≡◌, ◌≢◌, ◌∙◌, ℕ, List, [], Option, None, Some, Result, Ok, Err, IfErr, IfSome, OnErr, OnOk, inl, inr, refl, sym, ap, subst}
 use Rattle.std.specs.Prelude.{◌⊎◌, ◌==◌, if◌then◌else◌}
 use Rattle.std.specs.Io.Buffered.{reader_buffer, reader_capacity, reader_inner, reader_remaining}
 use Rattle.std.specs.Io.KnownBytes.{Appends, Keeps, prepend_known}
@@ -53,16 +53,27 @@ no_place : (r : Result Unit Fault) (watch : LineWatch) → IfErr r (IsRow (IsAud
 no_place (Ok u) watch h = tt
 no_place (Err fault) watch h = inr h
 
+-- what wasn't written before the row of memory took the fault's place isn't written
+pub kept_in_memory : {W : Type 0} (contents : W → Option (List ℕ)) (old new : W) (fault row : Fault)
+    → (fault ≡ row_of refusals.Write → row ≡ row_of refusals.Write) → (fault ≢ row_of refusals.Write → new ≡ old)
+    → row ≢ row_of refusals.Write → Keeps (contents old) (contents new)
+kept_in_memory contents old new fault row same unwritten other =
+    let is = unwritten (λ write. other (same write)) in
+    let P : _ → Type 0 = λ w. Keeps (contents old) (contents w) in
+    subst P (sym is) (Keeps-refl (contents old))
+
 -- the end of an audit whose minutes were followed
 pub followed : (what : Option Export) (owner : List ℕ) (desk : Desk MemoryStore) (calls : ℕ) (known before after : Option (List ℕ)) (watch : LineWatch) (r : Result Unit Fault)
     → IfSome known (λ given. HasFollowed over_memory desk owner calls (Some given) (Some []))
     → WritesLast over_memory desk calls (audited what) before after r → IfErr r (IsRow (IsAuditRefusal watch))
+    → (what ≡ None → IfErr r (λ fault. fault ≢ row_of refusals.Write → Keeps before after))
     → Audits what owner known before after watch r
-followed what owner desk calls known before after watch r f (left, w) h =
+followed what owner desk calls known before after watch r f (left, w) h unwritten =
     let wrote = w (memory_is_clean left.conn) in
     record {
       ok = whole what owner desk calls before after known r f wrote;
       stopped = part what owner desk calls before after known r f wrote;
+      unwritten = unwritten;
       named = no_place r watch h;
       wrong = no_line r (λ n. IfSome known (λ given. IsWrongAt given n)) (IsAuditRefusal watch) h;
       silent = no_line r (λ n. Keeps before after) (IsAuditRefusal watch) h;
@@ -86,6 +97,7 @@ pub stopped_by : (what : Option Export) (owner : List ℕ) (known before : Optio
 stopped_by what owner known before watch fault row is wrong passes caused = record {
   ok = tt;
   stopped = inl (Keeps-refl before);
+  unwritten = λ lines other. Keeps-refl before;
   named = rw is (row_of_cause watch fault caused);
   wrong = λ n same. wrong n (line_of fault n (sym is ∙ same));
   silent = λ n same. Keeps-refl before;
@@ -100,6 +112,7 @@ unread what owner known before watch fault is =
     record {
       ok = tt;
       stopped = inl (Keeps-refl before);
+      unwritten = λ lines other. Keeps-refl before;
       named = inr h;
       wrong = no_line (Err fault) (λ n. IfSome known (λ given. IsWrongAt given n)) (IsAuditRefusal watch) h;
       silent = no_line (Err fault) (λ n. Keeps before before) (IsAuditRefusal watch) h;

@@ -15,6 +15,8 @@ use Rattle.desk_store.specs.Desks.{ForEachShown}
 use Rattle.desk_store.specs.Exports.{Writes, WritesBeginning}
 use Rattle.desk_store.specs.declared.desk.Desk.{Desk}
 use Rattle.desk_audit.specs.Audits.{HasFollowed, IsWrongAt}
+use Rattle.desk_bytes.specs.declared.refusal.Refusal.TheVariants as refusals
+use Rattle.cli_lines.specs.Faults.{row_of}
 use Rattle.cli_lines.specs.declared.fault.Fault.{Fault}
 use Rattle.desk_lines.specs.declared.lines.LineWatch.{LineWatch}
 use Rattle.cli_audit.specs.Faults.{IsAuditRow, wrong_line}
@@ -54,10 +56,12 @@ AreNoMinutes known = (cs : History) → IsHistory cs → known ≢ Some (minutes
 
 -- The end of an audit of these bytes, where they are known, under a watch. Ok: all was followed and
 -- written. A fault is the first wrong line, and nothing was written; or memory was refused, a read
--- failed or a write did, and nothing was written, or of minutes that were followed a prefix.
+-- failed or a write did, and nothing was written, or of minutes that were followed a prefix: of the
+-- lines only if the write failed.
 pub record Audits (what : Option Export) (owner : List ℕ) (known before after : Option (List ℕ)) (watch : LineWatch) (result : Result Unit Fault) : Type 0 where
   pub ok : OnOk result (IfSome known (λ given. HasWritten what owner given (Appends before after)))
   pub stopped : OnErr result (Keeps before after ⊎ IfSome known (λ given. HasWritten what owner given (AppendsBeginning before after)))
+  pub unwritten : what ≡ None → IfErr result (λ fault. fault ≢ row_of refusals.Write → Keeps before after)
   pub named : IfErr result (IsAuditRow watch)
   pub wrong : IfErr result (λ fault. (n : ℕ) → fault ≡ wrong_line n → IfSome known (λ given. IsWrongAt given n))
   pub silent : IfErr result (λ fault. (n : ℕ) → fault ≡ wrong_line n → Keeps before after)

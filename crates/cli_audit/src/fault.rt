@@ -2,7 +2,8 @@
 ghost use Rattle.std.specs.Prelude.{◌≡◌};
 ghost use Rattle.desk_lines.specs.declared.lines.LineWatch.{LineWatch};
 ghost use Rattle.cli_commands.specs.Faults.{IsWritingRefusal};
-ghost use Rattle.cli_lines.specs.Faults.{IsRow};
+ghost use Rattle.desk_bytes.specs.declared.refusal.Refusal.TheVariants as refusals;
+ghost use Rattle.cli_lines.specs.Faults.{IsRow, row_of};
 ghost use Rattle.cli_audit.specs.Faults.{IsAuditRefusal, of_audit};
 
 use cli_lines::Fault;
@@ -25,8 +26,9 @@ pub fn row(fault: AuditFault) -> Fault
 
 /// The row for an export of a desk in memory.
 pub(crate) fn row_in_memory(fault: Fault) -> Fault
-    ensures { IsRow IsWritingRefusal fault → (watch : LineWatch)
+    ensures named { IsRow IsWritingRefusal fault → (watch : LineWatch)
         → IsRow (IsAuditRefusal watch) result }
+    ensures write { fault ≡ row_of refusals.Write → result ≡ row_of refusals.Write }
 {
     Fault {
         refusal: in_memory(fault.refusal),

@@ -1,5 +1,5 @@
 //! What an audit writes of a desk that has followed minutes.
-ghost use Rattle.std.specs.Prelude.{◌≡◌, ◌≢◌, Err, IfErr, OnErr, OnOk};
+ghost use Rattle.std.specs.Prelude.{◌≡◌, ◌≢◌, Err, None, IfErr, OnErr, OnOk};
 ghost use Rattle.std.specs.Io.KnownBytes.{Appends};
 ghost use Rattle.sqlite.specs.Held.{state};
 ghost use Rattle.sqlite.specs.State.{HasCleanDisk};
@@ -73,6 +73,8 @@ fn write_audit<S: Alter + Drop, W: Buffered>(
     ensures written { HasCleanDisk (state S.Store desk.new.conn)
         → WritesCounted S.Store desk.old calls (audited what)
         (W.contents writer.old) (W.contents writer.new) result }
+    ensures unwritten { what ≡ None → IfErr result (λ fault. fault ≢ row_of refusals.Write
+        → writer.new ≡ writer.old) }
     ensures flushed { OnOk result (W.flushed writer.new) }
     ensures named { IfErr result (IsRow IsWritingRefusal) }
 {
@@ -94,6 +96,8 @@ pub(crate) fn write_last<S: Alter + Drop, W: Buffered>(
 ) -> Result<(), Fault>
     ensures written { WritesLast S.Store desk calls (audited what)
         (W.contents writer.old) (W.contents writer.new) result }
+    ensures unwritten { what ≡ None → IfErr result (λ fault. fault ≢ row_of refusals.Write
+        → writer.new ≡ writer.old) }
     ensures flushed { OnOk result (W.flushed writer.new) }
     ensures named { IfErr result (IsRow IsWritingRefusal) }
 {

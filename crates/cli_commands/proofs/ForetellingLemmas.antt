@@ -1,9 +1,7 @@
 -- The lines and the outcome of an impact, by what is shown of it.
-use Rattle.std.proofs.Common.{◌≡◌, ◌≢◌, ◌∙◌, ℕ, Bool, List, [], ◌∷◌, ◌++◌, map, Option, Result, Ok, Err, OnErr, OnOk, sym, ap, subst, refl, inl, inr, true, false}
-use Rattle.std.specs.Prelude.{◌||◌, IfErr, MatchResult, if◌then◌else◌}
-use Rattle.std.specs.Io.KnownBytes.{Appends}
+use Rattle.std.proofs.Common.{◌≡◌, ◌∙◌, ℕ, Bool, List, [], ◌∷◌, ◌++◌, map, Result, Ok, Err, ap, refl, inl, inr, true, false}
+use Rattle.std.specs.Prelude.{◌||◌, MatchResult, if◌then◌else◌}
 use Rattle.std.specs.List.{flat_map, list_any}
-use Rattle.desk_bytes.specs.Output.{AppendsBeginning}
 use Rattle.desk_bytes.specs.declared.refusal.Refusal.{Refusal}
 use Rattle.desk_history.specs.Impact.{Impact, NewlyBarred}
 use Rattle.desk_history.specs.ImpactShown.{ShowsImpact, shown_barred}

@@ -1,5 +1,5 @@
 -- The lines of a subcommand over a desk's file, and the outcomes of its work.
-use Rattle.std.specs.Prelude.{◌≡◌, ℕ, List, [], ◌++◌, Option, None, Some, Result, Ok, Err, codes, if◌then◌else◌, map}
+use Rattle.std.specs.Prelude.{◌≡◌, ◌⊎◌, ℕ, List, [], ◌++◌, Option, None, Some, Result, Ok, Err, codes, if◌then◌else◌, map}
 use Rattle.std.specs.List.{flat_map, list_any}
 use Rattle.desk_bytes.specs.declared.refusal.Refusal.{Refusal}
 use Rattle.desk_texts.specs.declared.caller.Caller.TheVariants as callers
@@ -8,12 +8,15 @@ use Rattle.desk_history.specs.ImpactShown.{impact_for, shown_barred}
 use Rattle.desk_history.specs.declared.impact.ShownImpact.{ShownImpact}
 use Rattle.cli_lines.specs.ImpactLines.{barred_line, dbx_line}
 use Rattle.desk_history.specs.Calls.{History}
-use Rattle.desk_history.specs.Runs.{answer, reply_in}
+use Rattle.desk_history.specs.Runs.{answer, next, reply_in}
 use Rattle.desk_history.specs.declared.finding.Verdict.{Verdict}
 use Rattle.desk_history.specs.declared.finding.Verdict.TheVariants.{Allowed, DbxCertificate, DbxDigest, NotListed, Sbat}
 use Rattle.desk_texts.specs.ReplyTexts.{reply_text_of}
 use Rattle.desk_texts.specs.declared.command.Call.{Call}
 use Rattle.desk_texts.specs.declared.reply.Reply.{Reply}
+use Rattle.sqlite.specs.Store.{Ghosts}
+use Rattle.desk_store.specs.Desks.{ForEachShown, ShowsDesk}
+use Rattle.desk_store.specs.declared.desk.Desk.{Desk}
 use Rattle.cli_lines.specs.declared.ending.Outcome.{Outcome}
 use Rattle.cli_lines.specs.declared.ending.Outcome.TheVariants.{Done, Refused}
 
@@ -34,6 +37,10 @@ line_in (Some reply) = reply_line reply
 -- refusal
 abbrev pub answer_line : Call → List ℕ → History → List ℕ
 answer_line c owner cs = line_in (reply_in (answer cs c))
+
+-- after a call the desk shows the same history or the one after the call
+abbrev pub MayHaveAnswered : {S : Type 0} → Ghosts S → Desk S → Desk S → Call → Type 0
+MayHaveAnswered g old new c = ForEachShown g old (λ owner cs. ShowsDesk g new owner cs ⊎ ShowsDesk g new owner (next cs c))
 
 -- own: every verdict except `allowed` refuses the image
 abbrev pub outcome_of : Verdict → Outcome

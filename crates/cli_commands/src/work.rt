@@ -11,11 +11,12 @@ ghost use Rattle.cli_lines.specs.Faults.{IsRow, row_of};
 ghost use Rattle.cli_lines.specs.VerdictLines.{verdict_line};
 ghost use Rattle.desk_history.specs.Called.{called};
 ghost use Rattle.store_sql.specs.States.{Spares};
-ghost use Rattle.desk_store.specs.Desks.{ForEachShown, KeepsDesk, MayStop, Replies};
+ghost use Rattle.desk_store.specs.Desks.{CommitsOnlyAccepted, ForEachShown, KeepsDesk};
+ghost use Rattle.desk_store.specs.Desks.{MayStop, Refuses, Replies};
 ghost use Rattle.desk_store.specs.Exports.{SparesDesk, Writes, WritesBeginning};
 ghost use Rattle.desk_texts.specs.declared.reply.Reply.{Reply};
 ghost use Rattle.cli_commands.specs.Faults.{IsAddingRefusal, IsWritingRefusal};
-ghost use Rattle.cli_commands.specs.Works.{answer_line, outcome_of, reply_line};
+ghost use Rattle.cli_commands.specs.Works.{MayHaveAnswered, answer_line, outcome_of, reply_line};
 
 use crate::saying::{say_reply, say_verdict};
 use cli_lines::{Buffered, Fault, Outcome};
@@ -27,7 +28,7 @@ use std::alloc::Global;
 
 /// Adds the person by a call of the console, and writes the reply's text and LF. After `Write` the
 /// writer holds a prefix of this line; after any other fault it is unchanged. After `Write`,
-/// `NoMemory` and `Store` the person may have been added.
+/// `NoMemory` and `Store` the person may have been added; any other fault refuses the call.
 pub fn add<S: Alter + Drop, W: Buffered>(
     alloc: Global,
     desk: &mut Desk<S>,
@@ -46,6 +47,10 @@ pub fn add<S: Alter + Drop, W: Buffered>(
         (ForEachShown S.Store desk.old
         (WritesBeginning (W.contents writer.old) (W.contents writer.new)
         (answer_line (called Caller.Console key.now (Command.AddPerson person))))) }
+    ensures refused { HasCleanDisk (state S.Store desk.new.conn) → IfErr result (λ fault.
+        fault ≢ row_of refusals.NoMemory → fault ≢ row_of refusals.Write
+        → Refuses S.Store desk.old desk.new
+        (called Caller.Console key.now (Command.AddPerson person)) fault.refusal) }
     ensures unwritten { IfErr result (λ fault. fault ≢ row_of refusals.Write
         → writer.new ≡ writer.old) }
     ensures poisons { IsErrOf result (row_of refusals.Store) → desk.new.needs_reopening ≡ true }
@@ -53,14 +58,22 @@ pub fn add<S: Alter + Drop, W: Buffered>(
         × (desk.new ≡ desk.old) × (writer.new ≡ writer.old) }
     ensures named { IfErr result (IsRow IsAddingRefusal) }
 
+    ensures same { HasCleanDisk (state S.Store desk.new.conn)
+        → result ≢ Err (row_of refusals.Store) → MayHaveAnswered S.Store desk.old desk.new
+        (called Caller.Console key.now (Command.AddPerson person)) }
     ensures stopped { MayStop S.Store desk.old desk.new
         (called Caller.Console key.now (Command.AddPerson person)) }
+    ensures spares { CommitsOnlyAccepted S.Store desk.old desk.new
+        (called Caller.Console key.now (Command.AddPerson person)) }
+    ensures uncommitted { IfErr result (λ fault. fault ≢ row_of refusals.NoMemory
+        → fault ≢ row_of refusals.Store → fault ≢ row_of refusals.Write
+        → Spares S.Store desk.old.conn desk.new.conn) }
     ensures clean { HasCleanDisk (state S.Store desk.new.conn)
         → HasCleanDisk (state S.Store desk.old.conn) }
 {
     let reply = match desk.apply(&Caller::Console, key, &Command::AddPerson(person)) {
         Ok(reply) => reply,
-        Err(refusal) => return Err(Fault::from(refusal)),
+        Err(refused) => return Err(Fault::from(refused)),
     };
     match say_reply(alloc, &reply, writer) {
         Ok(()) => Ok(Outcome::Done),

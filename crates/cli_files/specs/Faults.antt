@@ -7,12 +7,10 @@ use Rattle.desk_service.specs.declared.fault.FactsFault.{FactsFault}
 use Rattle.cli_commands.specs.Faults.{IsWritingRefusal}
 
 -- an image has no facts: the row of its first fault, with the line of its SBAT text if that is
--- wrong, by the numbers of failed reads before and after
+-- wrong. It is in memory, so no read fails.
 pub record HasFault (image : List ℕ) (fault : Fault) : Type 0 where
-  pub before : ℕ
-  pub after : ℕ
   pub why : FactsFault
-  pub first : IsFirstFault image before after why
+  pub first : IsFirstFault image 0 0 why
   pub row : fault ≡ of_facts why
 
 -- the same of some image

@@ -17,7 +17,8 @@ use Rattle.cli_lines.specs.VerdictLines.{verdict_line}
 use Rattle.cli_lines.specs.declared.fault.Fault.{Fault}
 use Rattle.desk_history.specs.Called.{called}
 use Rattle.desk_service.specs.ImageFacts.{IsFactsOf}
-use Rattle.desk_store.specs.Desks.{ForEachShown, KeepsDesk, MayStop, Replies}
+use Rattle.store_sql.specs.States.{Spares}
+use Rattle.desk_store.specs.Desks.{CommitsOnlyAccepted, ForEachShown, KeepsDesk, MayStop, Refuses, Replies}
 use Rattle.desk_store.specs.Exports.{SparesDesk, Writes, WritesBeginning}
 use Rattle.desk_store.specs.declared.desk.Desk.{Desk}
 use Rattle.desk_texts.specs.declared.caller.Caller.TheVariants.{Console}
@@ -27,7 +28,7 @@ use Rattle.desk_texts.specs.declared.command.Person.{Person}
 use Rattle.desk_texts.specs.declared.facts.Facts.{Facts}
 use Rattle.desk_texts.specs.declared.reply.Reply.{Reply}
 use Rattle.cli_opening.specs.Works.{WorksAt}
-use Rattle.cli_commands.specs.Works.{Foretells, RefusesImpact, foretold_lines, outcome_of, reply_line}
+use Rattle.cli_commands.specs.Works.{Foretells, MayHaveAnswered, RefusesImpact, answer_line, foretold_lines, outcome_of, reply_line}
 use Rattle.cli_lines.specs.declared.ending.Ending.{Ending}
 use Rattle.cli_lines.specs.declared.ending.Outcome.{Outcome}
 
@@ -98,14 +99,26 @@ module _ {S : Type 0} (g : store.Ghosts S) where
       × IfErr work (λ fault. fault ≢ row_of refusals.NoMemory → fault ≢ row_of refusals.Store
       → fault ≢ row_of refusals.Write → ForEachShown g desk (RefusesImpact k fault.refusal)))
 
-  -- the desk answered a call of the console: the line of its reply was written, and a stop leaves the
-  -- history before the call or the one after it
-  abbrev pub AnswersCall : Call → Option (List ℕ) → Option (List ℕ) → Desk S → Desk S → Result Outcome Fault → Type 0
-  AnswersCall c before after desk left work =
-      (HasCleanDisk (state g left.conn) → OnOk work ((reply : Reply)
-      × Replies g desk left c reply × Appends before after (reply_line reply)))
-      × MayStop g desk left c
+  -- What a call of the console commits: nothing, if it is refused or a repeat. A stop leaves the history
+  -- before the call or the one after it; with a fault of neither memory, the store nor the writer only
+  -- what it could have left before.
+  abbrev pub CommitsCall : Call → Desk S → Desk S → Result Outcome Fault → Type 0
+  CommitsCall c desk left work = MayStop g desk left c × CommitsOnlyAccepted g desk left c
+      × IfErr work (λ fault. fault ≢ row_of refusals.NoMemory → fault ≢ row_of refusals.Store → fault ≢ row_of refusals.Write
+      → Spares g desk.conn left.conn)
+      × (HasCleanDisk (state g left.conn) → work ≢ Err (row_of refusals.Store) → MayHaveAnswered g desk left c)
       × WasClean desk left
+
+  -- The desk answered a call of the console: the line of its reply was written, or a prefix of the line
+  -- that is due; or the refusal is the rules', except for the device's and the writer's, and the desk
+  -- shows the same history. Only if the write failed was a prefix written.
+  abbrev pub AnswersCall : Call → Option (List ℕ) → Option (List ℕ) → Desk S → Desk S → Result Outcome Fault → Type 0
+  AnswersCall c before after desk left work = CommitsCall c desk left work
+      × IfErr work (λ fault. fault ≢ row_of refusals.Write → Keeps before after) × (HasCleanDisk (state g left.conn)
+      → OnOk work ((reply : Reply) × Replies g desk left c reply × Appends before after (reply_line reply))
+      × OnErr work (ForEachShown g desk (WritesBeginning before after (answer_line c)))
+      × IfErr work (λ fault. fault ≢ row_of refusals.NoMemory → fault ≢ row_of refusals.Write
+      → Refuses g desk left c fault.refusal))
 
 -- the same of a desk in files, which is then closed
 module _ {D : Type 0} (g : Ghosts D) where

@@ -59,7 +59,8 @@ pub fn foretell_from<S: Start, W: Buffered>(
     number: ProposalNumber,
     writer: &mut W,
 ) -> Ending
-    ensures foretold { (IsUnopened result × Keeps (W.contents writer.old) (W.contents writer.new))
+    ensures foretold { (IsUnopened ⟦<FileFrom<S> as Disk>⟧ S.Start result
+        × Keeps (W.contents writer.old) (W.contents writer.new))
         ⊎ AtADesk S.Start (WritesImpact ⟦<FileFrom<S> as Disk>⟧ number
         (W.contents writer.old) (W.contents writer.new) result) }
     ensures flushed { OnOk result.work (W.flushed writer.new) }

@@ -11,7 +11,7 @@ use std::io::BufWriter;
 
 /// Makes a desk: `make_desk`.
 pub fn run_init(rt: &HostRuntime, db: &str, owner: &Guid) -> Ending {
-    make_desk(rt, db, Unknown, owner)
+    make_desk(rt, db, Unknown, owner).ending()
 }
 
 /// Adds a person: `add_person`.

@@ -79,7 +79,8 @@ pub fn add_person<S: Start, W: Buffered>(
     person: Person,
     writer: &mut W,
 ) -> Ending
-    ensures added { (IsUnopened result × Keeps (W.contents writer.old) (W.contents writer.new))
+    ensures added { (IsUnopened ⟦<FileFrom<S> as Disk>⟧ S.Start result
+        × Keeps (W.contents writer.old) (W.contents writer.new))
         ⊎ AtADesk S.Start (Calls ⟦<FileFrom<S> as Disk>⟧ (adding key.now person)
         (W.contents writer.old) (W.contents writer.new) result) }
     ensures done { IfOk result.work (λ outcome. outcome ≡ Outcome.Done) }
@@ -181,7 +182,8 @@ pub fn judge_image<S: Start, W: Buffered>(
     file: &str,
     writer: &mut W,
 ) -> Ending
-    ensures judged { (IsUnopened result × Keeps (W.contents writer.old) (W.contents writer.new))
+    ensures judged { (IsUnopened ⟦<FileFrom<S> as Disk>⟧ S.Start result
+        × Keeps (W.contents writer.old) (W.contents writer.new))
         ⊎ AtADesk S.Start (Judges ⟦<FileFrom<S> as Disk>⟧
         (W.contents writer.old) (W.contents writer.new) result) }
     ensures flushed { OnOk result.work (W.flushed writer.new) }
@@ -238,7 +240,8 @@ pub fn export_from<S: Start, W: Buffered>(
     what: Export,
     writer: &mut W,
 ) -> Ending
-    ensures exported { (IsUnopened result × Keeps (W.contents writer.old) (W.contents writer.new))
+    ensures exported { (IsUnopened ⟦<FileFrom<S> as Disk>⟧ S.Start result
+        × Keeps (W.contents writer.old) (W.contents writer.new))
         ⊎ AtADesk S.Start (Exports ⟦<FileFrom<S> as Disk>⟧ what
         (W.contents writer.old) (W.contents writer.new) result) }
     ensures done { IfOk result.work (λ outcome. outcome ≡ Outcome.Done) }

@@ -14,6 +14,7 @@ use Rattle.cli_lines.specs.declared.ending.Outcome.{Outcome}
 use Rattle.cli_lines.specs.declared.fault.Fault.{Fault}
 use Rattle.cli_audit.specs.Faults.{wrong_line}
 use Rattle.cli_opening.specs.Opening.{IsFoundOrMade}
+use Rattle.cli_opening.specs.declared.ended.Ended.{Ended}
 use Rattle.cli_follow.specs.Faults.{IsFollowRow, IsOfFinding, IsRunRefusal, IsRunRow, IsUnrunRefusal}
 use Rattle.cli_follow.specs.Runs.{AtFoundOrMade, Follows, RunsOn}
 
@@ -27,7 +28,7 @@ ran_row : (watch : LineWatch) (work : Result Outcome Fault) → IfErr work (IsRu
 ran_row watch (Ok outcome) h = tt
 ran_row watch (Err fault) h = inr h
 
-found_row : {D : Type 0} (g : Ghosts D) (owner : List ℕ) (given before after : Option (List ℕ)) (watch : LineWatch) (ending : Ending) (desk : Desk (FileStore D g))
+found_row : {D : Type 0} (g : Ghosts D) (owner : List ℕ) (given before after : Option (List ℕ)) (watch : LineWatch) (ending : Ended D g) (desk : Desk (FileStore D g))
     → Follows g owner given before after watch ending desk → IfErr ending.work (IsFoundRow watch)
 found_row g owner given before after watch ending desk (inl other) = subst (λ (w : Result Outcome Fault). IfErr w (IsFoundRow watch)) (sym other.told) (inl refl)
 found_row g owner given before after watch ending desk (inr (own, inl at)) = ran_row watch ending.work at.ran.named
@@ -84,13 +85,13 @@ ran_unowned X watch (Err fault) (inl line) = λ owner. absurd (line_not_owner fa
 ran_unowned X watch (Err fault) (inr ran) = λ owner. absurd (not_owner watch fault.refusal ran.1 owner)
 
 -- so the fault of a run is none that tells another owner
-pub run_unowned : {D : Type 0} (g : Ghosts D) (given before after : Option (List ℕ)) (watch : LineWatch) (ending : Ending) (desk : Desk (FileStore D g)) (X : Type 0)
+pub run_unowned : {D : Type 0} (g : Ghosts D) (given before after : Option (List ℕ)) (watch : LineWatch) (ending : Ended D g) (desk : Desk (FileStore D g)) (X : Type 0)
     → RunsOn g desk given before after watch ending → IfErr ending.work (λ fault. fault.refusal ≡ refusals.Owner → X)
 run_unowned g given before after watch ending desk X (inl at) = ran_unowned X watch ending.work at.ran.named
 run_unowned g given before after watch ending desk X (inr lost) =
     subst (λ (e : Ending). IfErr e.work (λ fault. fault.refusal ≡ refusals.Owner → X)) (sym lost.told) (λ owner. absurd (not_owner watch lost.refusal lost.named owner))
 
-module _ {D : Type 0} {g : Ghosts D} (owner : List ℕ) (given before after : Option (List ℕ)) (watch : LineWatch) (ending : Ending) (desk : Desk (FileStore D g))
+module _ {D : Type 0} {g : Ghosts D} (owner : List ℕ) (given before after : Option (List ℕ)) (watch : LineWatch) (ending : Ended D g) (desk : Desk (FileStore D g))
     (did : Follows g owner given before after watch ending desk) where
   pub follow_named : IfErr ending.work (IsFollowRow watch)
   follow_named = follow_rows watch ending.work (found_row g owner given before after watch ending desk did)
@@ -100,7 +101,7 @@ module _ {D : Type 0} {g : Ghosts D} (owner : List ℕ) (given before after : Op
 
 -- ---- the desk of a reader with a buffer
 
-pub at_desk : {D S : Type 0} {g : Ghosts D} {first : start.Ghosts S} (owner : List ℕ) (held given before after : Option (List ℕ)) (watch : LineWatch) (ending : Ending) (desk : Desk (FileStore D g))
+pub at_desk : {D S : Type 0} {g : Ghosts D} {first : start.Ghosts S} (owner : List ℕ) (held given before after : Option (List ℕ)) (watch : LineWatch) (ending : Ended D g) (desk : Desk (FileStore D g))
     → held ≡ given → IsFoundOrMade g first owner desk → Follows g owner held before after watch ending desk
     → AtFoundOrMade {D = D} {g = g} first owner (Follows g owner given before after watch ending)
 at_desk {D} {S} {g} {first} owner held given before after watch ending desk same found did = record {
@@ -108,3 +109,9 @@ at_desk {D} {S} {g} {first} owner held given before after watch ending desk same
   found = found;
   done = subst (λ (known : Option (List ℕ)). Follows g owner known before after watch ending desk) same did;
 }
+
+-- a reader isn't asked where the desk has another owner; a caller that gave it sees the rest
+pub unasked : (X Y Z : Type 0) (work : Result Outcome Fault) → IfErr work (λ fault. fault.refusal ≡ refusals.Owner → X × Y × Z)
+    → IfErr work (λ fault. fault.refusal ≡ refusals.Owner → Y × Z)
+unasked X Y Z (Ok outcome) h = tt
+unasked X Y Z (Err fault) h = λ owner. ((h owner).1, (h owner).2)

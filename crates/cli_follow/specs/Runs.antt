@@ -21,7 +21,6 @@ use Rattle.desk_lines.specs.Comparing.{Begins}
 use Rattle.desk_follow.specs.Runs.{HasRun, IsAhead, IsWrongLine, LeavesRun}
 use Rattle.cli_lines.specs.Endings.{unopened}
 use Rattle.cli_lines.specs.Faults.{IsRow, row_of}
-use Rattle.cli_lines.specs.declared.ending.Ending.{Ending}
 use Rattle.cli_lines.specs.declared.ending.Outcome.{Outcome}
 use Rattle.cli_lines.specs.declared.fault.Fault.{Fault}
 use Rattle.cli_commands.specs.Faults.{IsWritingRefusal}
@@ -30,7 +29,11 @@ use Rattle.cli_audit.specs.Faults.{wrong_line}
 use Rattle.cli_audit.specs.Lines.{audit_lines}
 use Rattle.cli_opening.specs.Closing.{Ends}
 use Rattle.cli_opening.specs.Faults.{IsFindingRefusal}
+use Rattle.cli_opening.specs.Leaving.{IsLeft, ending_of}
 use Rattle.cli_opening.specs.Opening.{IsFoundOrMade}
+use Rattle.cli_opening.specs.Refusing.{IsNotFound}
+use Rattle.cli_opening.specs.declared.ended.Ended.{Ended}
+use Rattle.cli_opening.specs.declared.left.Rest.TheVariants.{Unclosed}
 use Rattle.cli_follow.specs.Faults.{IsRunRefusal, IsRunRow}
 
 -- ---- over any store
@@ -77,9 +80,12 @@ module _ {S : Type 0} (g : store.Ghosts S) where
 
 -- ---- over files
 
--- own: no desk was found or made, and this is the refusal
-abbrev pub IsUnfound : Ending → Type 0
-IsUnfound ending = (refusal : Refusal) × IsFindingRefusal refusal × (ending ≡ unopened refusal)
+-- own: no desk was found or made in the files that held `first`: this is the refusal, and what is left
+pub record IsUnfound {D S : Type 0} (g : Ghosts D) (first : start.Ghosts S) (owner : List ℕ) (ending : Ended D g) : Type 0 where
+  pub refusal : Refusal
+  pub told : ending_of ending ≡ unopened refusal
+  pub named : IsFindingRefusal refusal
+  pub why : IsNotFound g first owner refusal ending.left.rest
 
 -- the desk in the files that held `first` was found, or made there with this owner, and there this
 -- was done
@@ -90,36 +96,39 @@ pub record AtFoundOrMade {D S : Type 0} {g : Ghosts D} (first : start.Ghosts S) 
 
 module _ {D : Type 0} (g : Ghosts D) where
   -- the desk has another owner: it was closed as it was found, and nothing was written
-  pub record IsOfAnother (owner : List ℕ) (desk : Desk (FileStore D g)) (before after : Option (List ℕ)) (ending : Ending) : Type 0 where
+  pub record IsOfAnother (owner : List ℕ) (desk : Desk (FileStore D g)) (before after : Option (List ℕ)) (ending : Ended D g) : Type 0 where
     pub other : desk.owner ≢ owner
     pub told : ending.work ≡ Err (row_of refusals.Owner)
     pub silent : Keeps before after
-    pub ended : Ends g desk ending
+    pub ended : Ends g desk (ending_of ending)
+    pub kept : IsLeft g desk (ending_of ending) ending.left.rest
 
   -- a run left the desk so, and it was then closed
-  pub record RunsAt (desk : Desk (FileStore D g)) (given before after : Option (List ℕ)) (watch : LineWatch) (ending : Ending) : Type 0 where
+  pub record RunsAt (desk : Desk (FileStore D g)) (given before after : Option (List ℕ)) (watch : LineWatch) (ending : Ended D g) : Type 0 where
     pub left : Desk (FileStore D g)
     pub ran : Runs over_files desk left given before after watch ending.work
-    pub ended : Ends g left ending
+    pub ended : Ends g left (ending_of ending)
+    pub kept : IsLeft g left (ending_of ending) ending.left.rest
 
-  -- A device failed a run so that the desk is lost: nothing is closed or written. A stop leaves what one
-  -- of a run leaves.
-  pub record LosesDesk (desk : Desk (FileStore D g)) (given before after : Option (List ℕ)) (watch : LineWatch) (ending : Ending) : Type 0 where
+  -- A device failed a run so that the desk is lost: nothing is closed or written, and its connection is
+  -- left. A stop leaves what one of a run leaves.
+  pub record LosesDesk (desk : Desk (FileStore D g)) (given before after : Option (List ℕ)) (watch : LineWatch) (ending : Ended D g) : Type 0 where
     pub conn : Held (FileStore D g)
     pub refusal : Refusal
-    pub told : ending ≡ unopened refusal
+    pub told : ending_of ending ≡ unopened refusal
+    pub kept : ending.left.rest ≡ Unclosed conn
     pub named : IsRunRefusal watch refusal
     pub silent : Keeps before after
     pub stopped : ForEachStart over_files desk given (λ s. LeavesRun (state over_files conn) s)
     pub clean : HasCleanDisk (state over_files conn) → HasCleanDisk (state over_files desk.conn)
 
   -- the desk of this owner runs over the bytes
-  abbrev pub RunsOn : Desk (FileStore D g) → Option (List ℕ) → Option (List ℕ) → Option (List ℕ) → LineWatch → Ending → Type 0
+  abbrev pub RunsOn : Desk (FileStore D g) → Option (List ℕ) → Option (List ℕ) → Option (List ℕ) → LineWatch → Ended D g → Type 0
   RunsOn desk given before after watch ending =
       RunsAt desk given before after watch ending ⊎ LosesDesk desk given before after watch ending
 
   -- it does, if it has this owner
-  abbrev pub Follows : List ℕ → Option (List ℕ) → Option (List ℕ) → Option (List ℕ) → LineWatch → Ending → Desk (FileStore D g) → Type 0
+  abbrev pub Follows : List ℕ → Option (List ℕ) → Option (List ℕ) → Option (List ℕ) → LineWatch → Ended D g → Desk (FileStore D g) → Type 0
   Follows owner given before after watch ending desk =
       IsOfAnother owner desk before after ending
       ⊎ ((desk.owner ≡ owner) × RunsOn desk given before after watch ending)

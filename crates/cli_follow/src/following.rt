@@ -11,8 +11,8 @@ ghost use Rattle.cli_follow.specs.Runs.{AtFoundOrMade, Follows, ForEachStart, Is
 ghost use Rattle.cli_follow.specs.Runs.{RunsOn, Tells};
 
 use cli_audit::{LineWatch, row, say_told};
-use cli_lines::{Buffered, Ending, Fault, Outcome};
-use cli_opening::{Worked, close_after, open_or_make};
+use cli_lines::{Buffered, Fault, Outcome};
+use cli_opening::{Ended, Left, Worked, close_after, open_or_make};
 use desk_bytes::{Guid, Refusal};
 use desk_follow::{Followed, follow, has_owner};
 use desk_store::Desk;
@@ -77,19 +77,14 @@ fn follow_and_tell<S: Alter + Drop, R: BufRead, W: Buffered>(
     }
 }
 
-/// Drops a connection without closing it: nothing is written.
-fn let_go<S: Alter + Drop>(conn: Connection<S>) {
-    let _ = conn;
-}
-
-/// The same over files, and closes the desk. One that was lost isn't closed.
+/// The same over files, and closes the desk. One that was lost isn't closed: its connection is left.
 fn follow_and_close<D: Disk + Drop, R: BufRead, W: Buffered>(
     alloc: Global,
     desk: Desk<FileStore<D>>,
     reader: &mut R,
     watch: &mut LineWatch,
     writer: &mut W,
-) -> Ending
+) -> Ended<D>
     ensures ran { RunsOn D.Disk desk (R.remaining reader.old)
         (W.contents writer.old) (W.contents writer.new) watch.new result }
     ensures done { IfOk result.work (λ outcome. outcome ≡ Outcome.Done) }
@@ -102,14 +97,11 @@ fn follow_and_close<D: Disk + Drop, R: BufRead, W: Buffered>(
             let Worked { desk, work } = worked;
             close_after(desk, work)
         }
-        Err((refusal, conn)) => {
-            let_go(conn);
-            Ending::without_desk(refusal)
-        }
+        Err((refusal, conn)) => Ended::without_desk(refusal, Left::unclosed(conn)),
     }
 }
 
-/// The same, if the desk has this owner. If it has another, it is closed, and nothing is read.
+/// The same, if the desk has this owner. If it has another, it is closed, and the reader isn't asked.
 fn follow_on_desk<D: Disk + Drop, R: BufRead, W: Buffered>(
     alloc: Global,
     desk: Desk<FileStore<D>>,
@@ -117,11 +109,11 @@ fn follow_on_desk<D: Disk + Drop, R: BufRead, W: Buffered>(
     reader: &mut R,
     watch: &mut LineWatch,
     writer: &mut W,
-) -> Ending
+) -> Ended<D>
     ensures followed { Follows D.Disk owner.now (R.remaining reader.old)
         (W.contents writer.old) (W.contents writer.new) watch.new result desk }
     ensures owner { IfErr result.work (λ fault. fault.refusal ≡ Refusal.Owner
-        → (watch.new ≡ watch.old) × (writer.new ≡ writer.old)) }
+        → (reader.new ≡ reader.old) × (watch.new ≡ watch.old) × (writer.new ≡ writer.old)) }
     ensures done { IfOk result.work (λ outcome. outcome ≡ Outcome.Done) }
     ensures flushed { OnOk result.work (W.flushed writer.new) }
     ensures closing { IfSome result.closing (IsRow IsClosingRefusal) }
@@ -135,10 +127,11 @@ fn follow_on_desk<D: Disk + Drop, R: BufRead, W: Buffered>(
 }
 
 /// Follows the minutes of an input on the desk in a file, which is made if it is missing, and prints
-/// the lines of an audit of the desk. Takes memory for one line, and the store's.
+/// the lines of an audit of the desk. What is left of the desk's files is returned. Takes memory for
+/// one line, and the store's.
 ///
-/// The faults of the desk's file come first. Exists, File, NotADesk, Version: no desk is found in it
-/// or made. Owner: the desk has another. Minute: the place is the first line that isn't that of the
+/// The faults of the desk's file come first. File, NotADesk, Version: no desk is found in it or
+/// made. Owner: the desk has another. Minute: the place is the first line that isn't that of the
 /// desk, or what the rules give; a last line without a line break is such a line. Read: a read
 /// failed, or was interrupted. Write: all was followed, and a prefix of the lines may be written.
 /// NoMemory: memory was refused. Store: the store failed. Reopen: it had failed before. After a
@@ -151,8 +144,9 @@ pub fn follow_input<S: Start, R: Read + Drop, W: Buffered>(
     reader: R,
     watch: &mut LineWatch,
     writer: &mut W,
-) -> Ending
-    ensures followed { (IsUnfound result × (watch.new ≡ watch.old) × (writer.new ≡ writer.old))
+) -> Ended<FileFrom<S>>
+    ensures followed { (IsUnfound ⟦<FileFrom<S> as Disk>⟧ S.Start owner.now result
+        × (watch.new ≡ watch.old) × (writer.new ≡ writer.old))
         ⊎ AtFoundOrMade S.Start owner.now (Follows ⟦<FileFrom<S> as Disk>⟧ owner.now
         (R.remaining reader)
         (W.contents writer.old) (W.contents writer.new) watch.new result) }
@@ -168,10 +162,10 @@ pub fn follow_input<S: Start, R: Read + Drop, W: Buffered>(
 {
     let mut reader = match BufReader::new(rt.alloc(), reader) {
         Ok(reader) => reader,
-        Err(_) => return Ending::without_desk(Refusal::NoMemory),
+        Err(_) => return Ended::without_desk(Refusal::NoMemory, Left::nothing()),
     };
     match open_or_make(rt, db, start, owner) {
         Ok(desk) => follow_on_desk(rt.alloc(), desk, owner, &mut reader, watch, writer),
-        Err(refusal) => Ending::without_desk(refusal),
+        Err((refusal, left)) => Ended::without_desk(refusal, left),
     }
 }

@@ -17,10 +17,10 @@ fn follow_named<W: Buffered>(
 ) -> Ending {
     let mut watch = LineWatch::new();
     if file == "-" {
-        return follow_input(rt, db, Unknown, owner, rt.stdin(), &mut watch, out);
+        return follow_input(rt, db, Unknown, owner, rt.stdin(), &mut watch, out).ending();
     }
     match open_file(rt, file) {
-        Ok(input) => follow_input(rt, db, Unknown, owner, input, &mut watch, out),
+        Ok(input) => follow_input(rt, db, Unknown, owner, input, &mut watch, out).ending(),
         Err(fault) => Ending {
             work: Err(fault),
             closing: None,

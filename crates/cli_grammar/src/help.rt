@@ -3,9 +3,9 @@
 //! statuses. A refusal has its number and name of docs/REFUSALS.md. checks/help.sh runs the
 //! examples and compares these texts with that table.
 
-/// The program's version, and the kit that proves it: the line of `rt version`, which
-/// checks/help.sh compares.
-pub const VERSION: &str = "0.2.0 (rattle-kit-13f logic dac8208d650f15bf)";
+/// The program's version, the newest of CHANGELOG.md, as checks/help.sh compares. The kit that proved
+/// a program is in the record beside it.
+pub const VERSION: &str = "0.2.0";
 
 /// Each row begins the subcommand's own help.
 pub const DESK: &str = "\

@@ -1,11 +1,11 @@
 -- The step from the last commit of a connection to the history that it shows, and to a desk that is
 -- opened over it.
-use Rattle.std.proofs.Common.{◌≡◌, ◌∙◌, inl, inr, ℕ, List, [], ap, length, sym, subst, IsTrue, false}
+use Rattle.std.proofs.Common.{◌≡◌, ◌∙◌, ◌⊎◌, inl, inr, refl, ℕ, List, [], ap, length, sym, subst, IsTrue, true, false, arith}
 use Rattle.sqlite.specs.Effect.{Database}
 use Rattle.sqlite.specs.Held.{Held, state}
 use Rattle.sqlite.specs.Order.{Row}
 use Rattle.sqlite.specs.Schema.{Schema}
-use Rattle.sqlite.specs.State.{State, HasCleanDisk, IsLive}
+use Rattle.sqlite.specs.State.{State, HasCleanDisk, IsLive, Survives}
 use Rattle.sqlite.specs.Store.{Ghosts}
 use Rattle.sqlite_catalog.specs.Listing.{AreListed}
 use Rattle.sqlite_trees.specs.Objects.{catalog_tree}
@@ -14,16 +14,19 @@ use Rattle.desk_bytes.specs.declared.refusal.Refusal.TheVariants as refusals
 use Rattle.desk_history.specs.Calls.{History}
 use Rattle.desk_history.specs.Formed.{IsHistory}
 use Rattle.store_reads.specs.Failures.{IsFailure}
-use Rattle.store_schema.specs.Tables.{desk_layout, no_schema}
-use Rattle.store_schema.specs.rows.Histories.{HoldsFirst, HoldsHistory, LeavesHistory, ShowsFirst, ShowsHistory, rows_of}
+use Rattle.store_schema.specs.Names.{takes_a_desk_name}
+use Rattle.store_schema.specs.Tables.{desk_layout, first_layout, no_schema}
+use Rattle.store_schema.specs.rows.Histories.{HoldsFirst, HoldsHistory, LeavesHistory, ShowsFirst, ShowsHistory, first_rows_of, rows_of}
 use Rattle.store_sql.specs.Contents.{AreTablesOf, Contents, IsDatabaseIn}
 use Rattle.store_sql.specs.Layouts.{Fits, Layout}
-use Rattle.store_sql.specs.States.{Leaves, Shows}
+use Rattle.store_sql.specs.States.{Leaves, Shows, Spares}
 use Rattle.store_sql.proofs.ContentLemmas.{catalog_of}
 use Rattle.desk_store.specs.Desks.{ShowsDesk}
-use Rattle.desk_store.specs.Reopening.{FindsADesk}
+use Rattle.desk_store.specs.Steps.{Brings}
 use Rattle.desk_store.specs.declared.desk.Desk.{Desk}
+use Rattle.cli_opening.specs.Faults.{IsFindingRefusal, IsMakingRefusal}
 use Rattle.cli_opening.specs.Opening.{FindsOrMakes, HoldsTables, Makes, Opens}
+use Rattle.cli_opening.specs.Refusing.{RefusesDesk, RefusesFinding, RefusesMaking}
 
 -- a connection shows the tables of its last commit: their catalog lists their schema, and so no
 -- other
@@ -69,32 +72,96 @@ module _ {S : Type 0} (g : Ghosts S) (conn : Held S) where
     clean = opens.clean;
   }
 
-  -- where an opening is refused because there is no desk, the last commit has no desk's tables
-  no_tables : (last : Held S) (refusal : Refusal) → refusal ≡ refusals.NotADesk
+  -- ---- an opening that is refused
+
+  -- what a stop leaves of the tables of version 2, and of version 1
+  second_left : (last : Held S) (owner : List ℕ) (cs : History) → ShowsHistory (state g conn) owner cs → IsTrue (state g conn).is_open
+      → ((layout : Layout) (c : Contents) → Shows layout (state g conn) c → IsTrue (state g conn).is_open → Leaves (state g conn) (λ db. AreTablesOf layout db c))
+      → Spares g conn last → Leaves (state g last) (λ db. HoldsTables db owner cs)
+  second_left last owner cs shown live stop spares clean db may = left (spares.crash clean db may)
+    where
+      left : ((state g conn).may_leave db ⊎ ⊥) → HoldsTables db owner cs
+      left (inl was) = inl (stop desk_layout (rows_of owner cs) shown live (omega (arith, spares.clean, clean)) db was)
+      left (inr never) = absurd never
+
+  first_left : (last : Held S) (owner : List ℕ) (cs : History) → ShowsFirst (state g conn) owner cs → IsTrue (state g conn).is_open
+      → ((layout : Layout) (c : Contents) → Shows layout (state g conn) c → IsTrue (state g conn).is_open → Leaves (state g conn) (λ db. AreTablesOf layout db c))
+      → Survives (state g conn) (state g last) (Brings (state g conn)) → Leaves (state g last) (λ db. HoldsTables db owner cs)
+  first_left last owner cs shown live stop survives clean db may = left (survives.crash clean db may)
+    where
+      left : ((state g conn).may_leave db ⊎ Brings (state g conn) db) → HoldsTables db owner cs
+      left (inl was) = inr (shown.0, stop first_layout (first_rows_of owner cs) shown.1 live (omega (arith, survives.clean, clean)) db was)
+      left (inr brought) = inl (brought.1 owner cs shown)
+
+  -- so it leaves the history whose tables were the last commit
+  pub refused_left : (last : Held S)
+      → ((owner : List ℕ) (cs : History) → HoldsHistory (state g conn).committed.trees owner cs → ShowsHistory (state g conn) owner cs)
+      → ((owner : List ℕ) (cs : History) → HoldsFirst (state g conn).committed.trees owner cs → ShowsFirst (state g conn) owner cs)
+      → ((layout : Layout) (c : Contents) → Shows layout (state g conn) c → IsTrue (state g conn).is_open → Leaves (state g conn) (λ db. AreTablesOf layout db c))
+      → ((owner : List ℕ) (cs : History) → ShowsHistory (state g conn) owner cs → Spares g conn last)
+      → Survives (state g conn) (state g last) (Brings (state g conn))
+      → IsTrue (state g conn).is_open → (owner : List ℕ) (cs : History) → HoldsTables (state g conn).committed.trees owner cs
+      → Leaves (state g last) (λ db. HoldsTables db owner cs)
+  refused_left last second first stop spared survives live owner cs (inl holds) =
+      let shown = second owner cs holds in second_left last owner cs shown live stop (spared owner cs shown)
+  refused_left last second first stop spared survives live owner cs (inr holds) =
+      first_left last owner cs (first owner cs holds) live stop survives
+
+  -- and it is refused only by a device
+  pub known_of_commit : (refusal : Refusal)
       → ((owner : List ℕ) (cs : History) → HoldsHistory (state g conn).committed.trees owner cs → ShowsHistory (state g conn) owner cs)
       → ((owner : List ℕ) (cs : History) → HoldsFirst (state g conn).committed.trees owner cs → ShowsFirst (state g conn) owner cs)
       → ((owner : List ℕ) (cs : History) → length owner ≡ 16 → IsHistory cs → ShowsHistory (state g conn) owner cs → IsFailure refusal)
       → ((owner : List ℕ) (cs : History) → length owner ≡ 16 → IsHistory cs → ShowsFirst (state g conn) owner cs → IsFailure refusal)
-      → (owner : List ℕ) (cs : History) → length owner ≡ 16 → IsHistory cs → HoldsTables (state g conn).committed.trees owner cs → ⊥
-  no_tables last refusal is second first fails fails_first owner cs long history (inl holds) =
-      no_failure refusal is (fails owner cs long history (second owner cs holds))
-  no_tables last refusal is second first fails fails_first owner cs long history (inr holds) =
-      no_failure refusal is (fails_first owner cs long history (first owner cs holds))
+      → (owner : List ℕ) (cs : History) → length owner ≡ 16 → IsHistory cs → HoldsTables (state g conn).committed.trees owner cs → IsFailure refusal
+  known_of_commit refusal second first fails fails_first owner cs long history (inl holds) = fails owner cs long history (second owner cs holds)
+  known_of_commit refusal second first fails fails_first owner cs long history (inr holds) = fails_first owner cs long history (first owner cs holds)
 
-  -- and a desk that is made then is found
-  pub found_made : (last : Held S) (refusal : Refusal) (owner : List ℕ) (desk : Desk S) → refusal ≡ refusals.NotADesk
-      → ((owner : List ℕ) (cs : History) → HoldsHistory (state g conn).committed.trees owner cs → ShowsHistory (state g conn) owner cs)
-      → ((owner : List ℕ) (cs : History) → HoldsFirst (state g conn).committed.trees owner cs → ShowsFirst (state g conn) owner cs)
-      → (HasCleanDisk (state g last) → HasCleanDisk (state g conn))
-      → (HasCleanDisk (state g last) → (owner : List ℕ) (cs : History) → length owner ≡ 16 → IsHistory cs → ShowsHistory (state g conn) owner cs → IsFailure refusal)
-      → (HasCleanDisk (state g last) → (owner : List ℕ) (cs : History) → length owner ≡ 16 → IsHistory cs → ShowsFirst (state g conn) owner cs → IsFailure refusal)
-      → (HasCleanDisk (state g last) → FindsADesk g conn refusal)
-      → (state g last).now.schema ≡ no_schema → Makes g last owner desk → FindsOrMakes g conn owner desk
-  found_made last refusal owner desk is second first before fails fails_first finds bare makes = record {
-    either = inr (λ clean. makes.shows clean bare);
-    found = λ clean live earlier cs long history holds.
-        let then = makes.clean clean in
-        absurd (no_tables last refusal is second first (fails then) (fails_first then) earlier cs long history holds);
-    lives = λ clean earlier lives seen long formed holds. absurd ((finds (makes.clean clean) earlier lives seen long formed holds).0 is);
-    clean = λ clean. before (makes.clean clean);
+  -- ---- a desk that is made where there was none
+
+  clean_before : (last : Held S) (refusal : Refusal) → RefusesDesk g conn refusal last → HasCleanDisk (state g last) → HasCleanDisk (state g conn)
+  clean_before last refusal refused clean = omega (arith, refused.stopped.clean, clean)
+
+  pub found_made : (last : Held S) (refusal : Refusal) (owner : List ℕ) (desk : Desk S) → refusal ≡ refusals.NotADesk → RefusesDesk g conn refusal last
+      → (state g conn).now.schema ≡ no_schema → (state g last).now.schema ≡ no_schema → Makes g last owner desk → FindsOrMakes g conn owner desk
+  found_made last refusal owner desk is refused was_bare bare makes = record {
+    either = inr (was_bare, makes.own, λ clean. makes.shows clean bare);
+    found = λ clean live earlier cs long history holds. absurd (no_failure refusal is (refused.known (makes.clean clean) earlier cs long history holds));
+    lives = λ clean earlier lives seen long formed holds. absurd ((refused.finds (makes.clean clean) earlier lives seen long formed holds).0 is);
+    clean = λ clean. clean_before last refusal refused (makes.clean clean);
   }
+
+  -- nor was one made
+  pub unmade : (last final : Held S) (refusal again : Refusal) (owner : List ℕ) → refusal ≡ refusals.NotADesk → RefusesDesk g conn refusal last
+      → (state g conn).now.schema ≡ no_schema → RefusesMaking g last owner again final → RefusesFinding g conn owner again final
+  unmade last final refusal again owner is refused was_bare making =
+      let before : HasCleanDisk (state g final) → HasCleanDisk (state g last) = λ clean. omega (arith, making.stopped.clean, clean) in
+      record {
+        either = inr (record { bare = was_bare; between = last; none = subst (λ (r : Refusal). RefusesDesk g conn r last) is refused; making = making });
+        known = λ clean earlier cs long history holds. absurd (no_failure refusal is (refused.known (before clean) earlier cs long history holds));
+        left = λ live earlier cs long history holds clean db may. absurd (no_failure refusal is (refused.known (before clean) earlier cs long history holds));
+        clean = λ clean. clean_before last refusal refused (before clean);
+      }
+
+  -- no desk was opened, and there is no room for one
+  pub unfound : (last : Held S) (refusal : Refusal) (owner : List ℕ) → RefusesDesk g conn refusal last → RefusesFinding g conn owner refusal last
+  unfound last refusal owner refused = record {
+    either = inl refused;
+    known = refused.known;
+    left = λ live earlier cs long history holds. refused.left live earlier cs holds;
+    clean = clean_before last refusal refused;
+  }
+
+-- ---- why no desk is made in a store without tables
+
+none_taken : (schema : Schema) → schema ≡ no_schema → IsTrue (takes_a_desk_name schema) → ⊥
+none_taken schema bare taken =
+    let none : takes_a_desk_name no_schema ≡ false = refl in
+    let bad : false ≡ true = sym none ∙ subst (λ (s : Schema). IsTrue (takes_a_desk_name s)) bare taken in
+    absurd (cc)
+
+pub finding_refusal : (schema : Schema) (refusal : Refusal) → schema ≡ no_schema → (refusal ≡ refusals.Exists → IsTrue (takes_a_desk_name schema))
+    → IsMakingRefusal refusal → IsFindingRefusal refusal
+finding_refusal schema refusal bare taken (inl file) = inl file
+finding_refusal schema refusal bare taken (inr (inl exists)) = absurd (none_taken schema bare (taken exists))
+finding_refusal schema refusal bare taken (inr (inr failure)) = inr (inr (inr failure))

@@ -13,8 +13,13 @@ use Rattle.cli_lines.specs.declared.fault.Fault.{Fault}
 use Rattle.store_reads.specs.Failures.{IsFailure}
 use Rattle.cli_opening.specs.Closing.{Ends, FailsForGood, LeavesUsable}
 use Rattle.cli_opening.specs.Faults.{IsClosingRefusal, IsLasting, IsOfOpening}
+use Rattle.cli_opening.specs.Leaving.{IsLeft, ending_of}
 use Rattle.cli_opening.specs.Opening.{IsMade}
-use Rattle.cli_opening.specs.Works.{IsUnopened, MakesDesk}
+use Rattle.cli_opening.specs.Works.{IsUnopened, LeavesUnopened, MakesDesk, WorksOn, WorksOnLeaving}
+use Rattle.cli_opening.specs.declared.ended.Ended.{Ended}
+use Rattle.cli_opening.specs.declared.left.Rest.{Rest}
+use Rattle.cli_opening.specs.declared.left.Rest.TheVariants.{Nothing}
+use Rattle.cli_lines.specs.Endings.{unopened}
 use Rattle.cli_lines.specs.declared.ending.Ending.{Ending}
 use Rattle.cli_lines.specs.declared.ending.Outcome.{Outcome}
 use Rattle.desk_store.specs.declared.desk.Desk.{Desk}
@@ -46,13 +51,25 @@ never_both (Ok outcome) fails usable = absurd fails
 never_both (Err fault) fails usable = absurd (usable fails)
 
 -- once the work is done, a desk was made
-pub made_desk : {D S : Type 0} {g : Ghosts D} {first : start.Ghosts S} (owner : List ℕ) (ending : Ending) (desk : Desk (FileStore D g))
-    → IsMade g first owner desk → Ends g desk ending → OnOk ending.work (MakesDesk g first owner ending)
-made_desk {D} {S} {g} {first} owner ending desk made ended = done ending.work
+pub made_desk : {D S : Type 0} {g : Ghosts D} {first : start.Ghosts S} (owner : List ℕ) (end : Ended D g) (desk : Desk (FileStore D g))
+    → IsMade g first owner desk → Ends g desk (ending_of end) → IsLeft g desk (ending_of end) end.left.rest → OnOk end.work (MakesDesk g first owner end)
+made_desk {D} {S} {g} {first} owner end desk made ended kept = done end.work
   where
-    done : (work : Result Outcome Fault) → OnOk work (MakesDesk g first owner ending)
-    done (Ok outcome) = record { desk = desk; made = made; ended = ended }
+    done : (work : Result Outcome Fault) → OnOk work (MakesDesk g first owner end)
+    done (Ok outcome) = record { desk = desk; made = made; ended = ended; kept = kept }
     done (Err fault) = tt
+
+-- what is left, is something
+pub some_rest : {D S : Type 0} {g : Ghosts D} (first : start.Ghosts S)
+    (did : Desk (FileStore D g) → Desk (FileStore D g) → Result Outcome Fault → Type 0) (Y : Type 0) (ending : Ending) (rest : Rest D g)
+    → ((LeavesUnopened g first ending rest × Y) ⊎ WorksOnLeaving g first did ending rest) → ((IsUnopened g first ending × Y) ⊎ WorksOn g first did ending)
+some_rest first did Y ending rest (inl none) = inl (record { rest = rest; leaves = none.0 }, none.1)
+some_rest first did Y ending rest (inr at) = inr (record { desk = at.desk; opened = at.opened; done = record { rest = rest; works = at.done } })
+
+-- no desk was opened where memory was refused before
+pub unopened_for_memory : {D S : Type 0} (g : Ghosts D) (first : start.Ghosts S) (ending : Ending) → ending ≡ unopened refusals.NoMemory → IsUnopened g first ending
+unopened_for_memory g first ending is =
+    record { rest = Nothing; leaves = record { refusal = refusals.NoMemory; told = is; named = inl (inl refl); why = inl refl } }
 
 -- the faults of work are among those of the opening or the work
 pub also : (P Q : Fault → Type 0) (work : Result Outcome Fault) → IfErr work Q → IfErr work (λ fault. P fault ⊎ Q fault)
@@ -85,10 +102,10 @@ keeps_same contents old new same =
     subst P (sym same) (Keeps-refl (contents old))
 
 -- the output of a subcommand that opened no desk keeps its bytes
-pub unopened_keeps : {W X : Type 0} (contents : W → Option (List ℕ)) (old new : W) (ending : Ending)
-    → ((IsUnopened ending × (new ≡ old)) ⊎ X) → ((IsUnopened ending × Keeps (contents old) (contents new)) ⊎ X)
-unopened_keeps contents old new ending (inl none) = inl (none.0, keeps_same contents old new none.1)
-unopened_keeps contents old new ending (inr done) = inr done
+pub unopened_keeps : {W U X : Type 0} (contents : W → Option (List ℕ)) (old new : W)
+    → ((U × (new ≡ old)) ⊎ X) → ((U × Keeps (contents old) (contents new)) ⊎ X)
+unopened_keeps contents old new (inl none) = inl (none.0, keeps_same contents old new none.1)
+unopened_keeps contents old new (inr done) = inr done
 
 pub first_keeps : {W : Type 0} (contents : W → Option (List ℕ)) (old new : W) (closing : Option Fault) (work : Result Outcome Fault)
     → IfErr work (λ fault. IsOfOpening fault.refusal → (closing ≡ None) × (new ≡ old))
@@ -97,9 +114,9 @@ first_keeps contents old new closing (Ok outcome) h = tt
 first_keeps contents old new closing (Err fault) h = λ opening. ((h opening).0, keeps_same contents old new (h opening).1)
 
 -- the same without an output
-pub unopened_alone : {X Y : Type 0} (ending : Ending) → ((IsUnopened ending × Y) ⊎ X) → (IsUnopened ending ⊎ X)
-unopened_alone ending (inl none) = inl none.0
-unopened_alone ending (inr done) = inr done
+pub unopened_alone : {U X Y : Type 0} → ((U × Y) ⊎ X) → (U ⊎ X)
+unopened_alone (inl none) = inl none.0
+unopened_alone (inr done) = inr done
 
 pub first_alone : (Y : Type 0) (closing : Option Fault) (work : Result Outcome Fault)
     → IfErr work (λ fault. IsOfOpening fault.refusal → (closing ≡ None) × Y)

@@ -1,7 +1,6 @@
 -- A desk that was made or opened by a connection to two files.
-use Rattle.std.proofs.Common.{ℕ, List, Result, Ok, Err, sym, subst}
+use Rattle.std.proofs.Common.{◌≡◌, ℕ, List, length, IsTrue, sym, subst}
 use Rattle.std.proofs.Math.Logic.{∥∥₁_elim, ∥∥₁_map}
-use Rattle.std.specs.Prelude.{IfOk}
 use Rattle.sqlite.specs.Files.{file_state, over_files}
 use Rattle.sqlite.specs.Held.{Held}
 use Rattle.sqlite.specs.State.{HasCleanDisk}
@@ -13,10 +12,14 @@ use Rattle.sqlite_trees.specs.Props.{Trees-set}
 use Rattle.sqlite_wal.specs.Files.{image_at}
 use Rattle.desk_bytes.specs.declared.refusal.Refusal.{Refusal}
 use Rattle.desk_history.specs.Calls.{History}
+use Rattle.desk_history.specs.Formed.{IsHistory}
 use Rattle.desk_history.specs.Lives.{Life}
+use Rattle.store_reads.specs.Failures.{IsFailure}
+use Rattle.store_sql.specs.States.{Leaves}
 use Rattle.desk_store.specs.Headline.{FindsLives, HoldsLives, Seen}
 use Rattle.desk_store.specs.declared.desk.Desk.{Desk}
-use Rattle.cli_opening.specs.Opening.{ConnectsTo, FindsOrMakes, HoldsDesk, HoldsLivesIn, HoldsTables, IsFoundOrMade, IsMade, IsOpened, Makes, Opens}
+use Rattle.cli_opening.specs.Opening.{ConnectsTo, FindsOrMakes, HoldsDesk, HoldsLivesIn, HoldsTables, IsFoundOrMade, IsOpened, Opens}
+use Rattle.cli_opening.specs.Refusing.{IsRefusedOver}
 
 module _ {D S : Type 0} {g : Ghosts D} (first : start.Ghosts S) (conn : Held (FileStore D g)) (over : ConnectsTo g first conn) where
   -- the last commit is what the files held at first
@@ -31,7 +34,7 @@ module _ {D S : Type 0} {g : Ghosts D} (first : start.Ghosts S) (conn : Held (Fi
   committed_lives owner lives seen held clean live =
       ∥∥₁_map held (λ it. subst (λ (t : Trees). HoldsLives t owner lives seen) (sym ((over.found clean).holds it.0 it.1)) it.2)
 
-  is_opened : (desk : Desk (FileStore D g)) → Opens over_files conn desk → IsOpened g first desk
+  pub is_opened : (desk : Desk (FileStore D g)) → Opens over_files conn desk → IsOpened g first desk
   is_opened desk opens = record {
     conn = conn;
     over = over;
@@ -53,11 +56,19 @@ module _ {D S : Type 0} {g : Ghosts D} (first : start.Ghosts S) (conn : Held (Fi
     lives = λ clean earlier lives seen long formed held. finds.lives clean earlier lives seen long formed (committed_lives earlier lives seen held);
   }
 
-  pub made_in_files : (owner : List ℕ) (given : Result (Desk (FileStore D g)) Refusal)
-      → IfOk given (Makes over_files conn owner) → IfOk given (IsMade g first owner)
-  made_in_files owner (Ok desk) makes = record { conn = conn; over = over; makes = makes }
-  made_in_files owner (Err refusal) makes = tt
-
-  pub opened_in_files : (given : Result (Desk (FileStore D g)) Refusal) → IfOk given (Opens over_files conn) → IfOk given (IsOpened g first)
-  opened_in_files (Ok desk) opens = is_opened desk opens
-  opened_in_files (Err refusal) opens = tt
+  -- what is refused over the last commit is refused over what the files held at first
+  pub is_refused : (refuses : Held (FileStore D g) → Type 0) (refusal : Refusal) (last : Held (FileStore D g)) → refuses conn
+      → (HasCleanDisk (file_state last) → (owner : List ℕ) (cs : History) → length owner ≡ 16 → IsHistory cs
+      → HoldsTables (file_state conn).committed.trees owner cs → IsFailure refusal)
+      → (IsTrue (file_state conn).is_open → (owner : List ℕ) (cs : History) → length owner ≡ 16 → IsHistory cs
+      → HoldsTables (file_state conn).committed.trees owner cs → Leaves (file_state last) (λ db. HoldsTables db owner cs))
+      → (HasCleanDisk (file_state last) → HasCleanDisk (file_state conn))
+      → IsRefusedOver g first refuses refusal last
+  is_refused refuses refusal last refused known left before = record {
+    conn = conn;
+    over = over;
+    refused = refused;
+    known = λ clean owner cs long history held. known clean owner cs long history (committed_tables (before clean) owner cs held);
+    left = λ owner cs long history held clean db may.
+        left (over.opened (before clean)).0.is_open owner cs long history (committed_tables (before clean) owner cs held) clean db may;
+  }

@@ -1,5 +1,7 @@
 pub mod Closing
 pub mod Faults
+pub mod Leaving
 pub mod Opening
 pub mod Pages
+pub mod Refusing
 pub mod Works

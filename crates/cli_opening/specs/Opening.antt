@@ -10,7 +10,7 @@ use Rattle.sqlite.specs.Files as files
 use Rattle.sqlite.specs.Files.{HoldsDatabase, file_state, over_files}
 use Rattle.sqlite.specs.Held.{Held, state}
 use Rattle.sqlite.specs.Start.{FindsIn}
-use Rattle.sqlite.specs.State.{HasCleanDisk}
+use Rattle.sqlite.specs.State.{HasCleanDisk, Survives}
 use Rattle.sqlite.specs.Store.{Ghosts}
 use Rattle.sqlite.specs.Tree.{Trees}
 use Rattle.sqlite_disk.specs.declared.Disk as disk
@@ -26,6 +26,7 @@ use Rattle.store_sql.specs.States.{Spares}
 use Rattle.store_schema.specs.Names.{takes_a_desk_name}
 use Rattle.store_schema.specs.Tables.{no_schema}
 use Rattle.desk_store.specs.Desks.{ShowsDesk}
+use Rattle.desk_store.specs.Founding.{Founded, HasFoundedBeside}
 use Rattle.desk_store.specs.Headline.{FindsLives, HoldsLives, IsRecovered, Recovers, Seen}
 use Rattle.desk_store.specs.declared.desk.Desk.{Desk}
 
@@ -36,11 +37,16 @@ HoldsTables db owner cs = HoldsHistory db owner cs ⊎ HoldsFirst db owner cs
 -- ---- the desk of a connection
 
 module _ {S : Type 0} (g : Ghosts S) (conn : Held S) where
-  -- None of the desk's names was taken in the connection's store, and if it had no other tables,
-  -- the desk that was made in it has this owner and no calls.
+  -- None of the desk's names was taken in the connection's store, and the desk that was made in it
+  -- has this owner, and if the store had no other tables, no calls. Beside others it has its rows,
+  -- and they keep theirs, where their schema `AllowsDesk`. A stop leaves what it could have left
+  -- before, or that.
   pub record Makes (owner : List ℕ) (desk : Desk S) : Type 0 where
     pub free : takes_a_desk_name (state g conn).now.schema ≡ false
+    pub own : desk.owner ≡ owner
     pub shows : HasCleanDisk (state g desk.conn) → (state g conn).now.schema ≡ no_schema → ShowsDesk g desk owner []
+    pub beside : HasCleanDisk (state g desk.conn) → HasFoundedBeside (state g conn) (state g desk.conn) owner
+    pub stopped : Survives (state g conn) (state g desk.conn) (Founded (state g conn) owner)
     pub clean : HasCleanDisk (state g desk.conn) → HasCleanDisk (state g conn)
 
   -- The opened desk shows the history that the connection shows, in tables of either version, and
@@ -58,10 +64,11 @@ module _ {S : Type 0} (g : Ghosts S) (conn : Held S) where
     pub spares : (owner : List ℕ) (cs : History) → ShowsHistory (state g conn) owner cs → Spares g conn desk.conn
     pub clean : HasCleanDisk (state g desk.conn) → HasCleanDisk (state g conn)
 
-  -- The desk was opened so, or it was made: it shows this owner and no calls. If the last commit
-  -- has a desk's tables, with an owner of 16 bytes, it wasn't made: it shows their history.
+  -- The desk was opened so; or it was made, in a store without tables, indexes and views: it shows
+  -- this owner and no calls. If the last commit has a desk's tables, with an owner of 16 bytes, it
+  -- wasn't made: it shows their history.
   pub record FindsOrMakes (owner : List ℕ) (desk : Desk S) : Type 0 where
-    pub either : Opens desk ⊎ (HasCleanDisk (state g desk.conn) → ShowsDesk g desk owner [])
+    pub either : Opens desk ⊎ (((state g conn).now.schema ≡ no_schema) × (desk.owner ≡ owner) × (HasCleanDisk (state g desk.conn) → ShowsDesk g desk owner []))
     pub found : HasCleanDisk (state g desk.conn) → IsTrue (state g conn).is_open → (earlier : List ℕ) (cs : History) → length earlier ≡ 16
         → IsHistory cs → HoldsTables (state g conn).committed.trees earlier cs → ShowsDesk g desk earlier cs
     pub lives : HasCleanDisk (state g desk.conn) → (earlier : List ℕ) (lives : List Life) (seen : Seen) → length earlier ≡ 16

@@ -1,16 +1,16 @@
-//! A desk's file: made, opened and closed. What is proved of it holds whatever the file and its log
-//! held at first: `start` names that (specs/Opening.antt).
-ghost use Rattle.std.specs.Prelude.{◌≡◌, None, IfErr, IfOk, IfSome, IsTrue, OnOk, false, true};
-ghost use Rattle.cli_opening.specs.Closing.{Ends, FailsForGood, IsClosed};
-ghost use Rattle.cli_opening.specs.Faults.{IsClosingRefusal, IsLasting};
+//! A desk's file: made and opened. What is proved of it holds whatever the file and its log held at
+//! first: `start` names that (specs/Opening.antt).
+ghost use Rattle.std.specs.Prelude.{◌≡◌, IfErr, IfOk, IsTrue, false};
 ghost use Rattle.store_schema.specs.Tables.{no_schema};
+ghost use Rattle.cli_lines.specs.Faults.{IsFileRefusal};
 ghost use Rattle.cli_opening.specs.Faults.{IsFindingRefusal, IsMakingRefusal, IsOpeningRefusal};
 ghost use Rattle.cli_opening.specs.Opening.{FindsOrMakes, IsFoundOrMade, IsMade, IsOpened, Makes, Opens};
-ghost use Rattle.cli_lines.specs.Faults.{IsFileRefusal, IsRow};
+ghost use Rattle.cli_opening.specs.Refusing.{IsNotFound, IsNotMade, IsNotOpened};
+ghost use Rattle.cli_opening.specs.Refusing.{RefusesDesk, RefusesFinding, RefusesMaking};
 
 use crate::connecting::{Room, connect};
 use crate::last_commit::last_commit_is_shown;
-use cli_lines::{Ending, Fault, Outcome};
+use crate::left::Left;
 use desk_bytes::{Guid, Refusal};
 use desk_store::Desk;
 use sqlite::{Alter, Connection, FileFrom, FileStore, Start};
@@ -27,11 +27,6 @@ const PRIVATE: u32 = 0o600;
 
 /// A desk in a file.
 pub type FileDesk<S> = Desk<FileStore<FileFrom<S>>>;
-
-/// Drops a connection without closing it: nothing is written.
-fn let_go<S: Alter + Drop>(conn: Connection<S>) {
-    let _ = conn;
-}
 
 /// Whether there is something at a path.
 fn is_there(rt: &HostRuntime, path: &str) -> Result<bool, Refusal>
@@ -61,22 +56,20 @@ fn make_private(rt: &HostRuntime, path: &str) -> Result<(), Refusal>
     }
 }
 
-/// Makes a desk over a connection, which is dropped if no desk is made.
+/// Makes a desk over a connection. A refusal returns it.
 fn make_over<S: Alter + Drop>(
     alloc: Global,
     conn: Connection<S>,
     owner: &Guid,
-) -> Result<Desk<S>, Refusal>
+) -> Result<Desk<S>, (Refusal, Connection<S>)>
     requires { conn.in_transaction ≡ false }
     ensures made { IfOk result (Makes S.Store conn owner.now) }
-    ensures named { IfErr result IsMakingRefusal }
+    ensures refused { IfErr result (λ e. RefusesMaking S.Store conn owner.now e.0 e.1) }
+    ensures named { IfErr result (λ e. IsMakingRefusal e.0) }
 {
     match Desk::create(alloc, conn, owner) {
         Ok(desk) => Ok(desk),
-        Err((refusal, conn)) => {
-            let_go(conn);
-            Err(refusal)
-        }
+        Err((refusal, unmade)) => Err((refusal, unmade)),
     }
 }
 
@@ -86,17 +79,23 @@ fn make_there<S: Start>(
     path: &str,
     start: S,
     owner: &Guid,
-) -> Result<FileDesk<S>, Refusal>
+) -> Result<FileDesk<S>, (Refusal, Left<FileFrom<S>>)>
     ensures made { IfOk result (IsMade ⟦<FileFrom<S> as Disk>⟧ S.Start owner.now) }
-    ensures named { IfErr result IsMakingRefusal }
+    ensures refused { IfErr result (λ e.
+        IsNotMade ⟦<FileFrom<S> as Disk>⟧ S.Start owner.now e.0 e.1.rest) }
+    ensures named { IfErr result (λ e. IsMakingRefusal e.0) }
 {
     match connect(rt, path, Room::AsItIs, start) {
-        Ok(conn) => make_over(rt.alloc(), conn, owner),
-        Err(refusal) => Err(refusal),
+        Ok(conn) => match make_over(rt.alloc(), conn, owner) {
+            Ok(desk) => Ok(desk),
+            Err((refusal, unmade)) => Err((refusal, Left::unclosed(unmade))),
+        },
+        Err(refusal) => Err((refusal, Left::nothing())),
     }
 }
 
 /// Makes a desk in a file. One that doesn't exist is created, for its user alone, and so is its log.
+/// A refusal returns what is left of the file.
 ///
 /// `File`, `NoMemory`: as for `connect`. Then as for `Desk::create`: `Exists`: a table, an index or
 /// a view has a name of the desk's tables. `NoMemory`: memory was refused. `Store`: the store
@@ -106,30 +105,34 @@ pub fn make<S: Start>(
     path: &str,
     start: S,
     owner: &Guid,
-) -> Result<FileDesk<S>, Refusal>
+) -> Result<FileDesk<S>, (Refusal, Left<FileFrom<S>>)>
     ensures made { IfOk result (IsMade ⟦<FileFrom<S> as Disk>⟧ S.Start owner.now) }
-    ensures named { IfErr result IsMakingRefusal }
+    ensures refused { IfErr result (λ e.
+        IsNotMade ⟦<FileFrom<S> as Disk>⟧ S.Start owner.now e.0 e.1.rest) }
+    ensures named { IfErr result (λ e. IsMakingRefusal e.0) }
 {
     match make_private(rt, path) {
         Ok(()) => make_there(rt, path, start, owner),
-        Err(refusal) => Err(refusal),
+        Err(refusal) => Err((refusal, Left::nothing())),
     }
 }
 
-/// Opens the desk of a connection, which is dropped if there is no desk.
-fn open_over<S: Alter + Drop>(alloc: Global, conn: Connection<S>) -> Result<Desk<S>, Refusal>
+/// Opens the desk of a connection. A refusal returns it.
+fn open_over<S: Alter + Drop>(
+    alloc: Global,
+    conn: Connection<S>,
+) -> Result<Desk<S>, (Refusal, Connection<S>)>
     requires { conn.in_transaction ≡ false }
     ensures opened { IfOk result (Opens S.Store conn) }
-    ensures named { IfErr result IsOpeningRefusal }
+    ensures refused { IfErr result (λ e. RefusesDesk S.Store conn e.0 e.1) }
+    ensures outside { IfErr result (λ e. e.1.in_transaction ≡ false) }
+    ensures named { IfErr result (λ e. IsOpeningRefusal e.0) }
 {
     last_commit_is_shown(&conn);
     stop_leaves_what_is_shown(&conn);
     match Desk::open(alloc, conn) {
         Ok(desk) => Ok(desk),
-        Err((refusal, conn)) => {
-            let_go(conn);
-            Err(refusal)
-        }
+        Err((refusal, refused)) => Err((refusal, refused)),
     }
 }
 
@@ -139,17 +142,23 @@ fn open_there<S: Start>(
     path: &str,
     start: S,
     room: Room,
-) -> Result<FileDesk<S>, Refusal>
+) -> Result<FileDesk<S>, (Refusal, Left<FileFrom<S>>)>
     ensures opened { IfOk result (IsOpened ⟦<FileFrom<S> as Disk>⟧ S.Start) }
-    ensures named { IfErr result IsOpeningRefusal }
+    ensures refused { IfErr result (λ e.
+        IsNotOpened ⟦<FileFrom<S> as Disk>⟧ S.Start e.0 e.1.rest) }
+    ensures named { IfErr result (λ e. IsOpeningRefusal e.0) }
 {
     match connect(rt, path, room, start) {
-        Ok(conn) => open_over(rt.alloc(), conn),
-        Err(refusal) => Err(refusal),
+        Ok(conn) => match open_over(rt.alloc(), conn) {
+            Ok(desk) => Ok(desk),
+            Err((refusal, refused)) => Err((refusal, Left::unclosed(refused))),
+        },
+        Err(refusal) => Err((refusal, Left::nothing())),
     }
 }
 
-/// Opens the desk in a file. One of version 1 becomes one of version 2 (`Desk::open`).
+/// Opens the desk in a file. One of version 1 becomes one of version 2 (`Desk::open`). A refusal
+/// returns what is left of the file.
 ///
 /// `File`: the file doesn't exist, and isn't created; or as for `connect`. `NotADesk`, `Version`:
 /// it holds no desk that this program knows. `NoMemory`: memory was refused. `Store`: the store
@@ -159,14 +168,16 @@ pub fn open<S: Start>(
     path: &str,
     start: S,
     room: Room,
-) -> Result<FileDesk<S>, Refusal>
+) -> Result<FileDesk<S>, (Refusal, Left<FileFrom<S>>)>
     ensures opened { IfOk result (IsOpened ⟦<FileFrom<S> as Disk>⟧ S.Start) }
-    ensures named { IfErr result IsOpeningRefusal }
+    ensures refused { IfErr result (λ e.
+        IsNotOpened ⟦<FileFrom<S> as Disk>⟧ S.Start e.0 e.1.rest) }
+    ensures named { IfErr result (λ e. IsOpeningRefusal e.0) }
 {
     match is_there(rt, path) {
         Ok(true) => open_there(rt, path, start, room),
-        Ok(false) => Err(Refusal::File),
-        Err(refusal) => Err(refusal),
+        Ok(false) => Err((Refusal::File, Left::nothing())),
+        Err(refusal) => Err((refusal, Left::nothing())),
     }
 }
 
@@ -183,30 +194,30 @@ fn is_bare(schema: &Schema) -> bool
     schema.views.is_empty()
 }
 
-/// The desk of a connection; one without calls is made where there is no table at all. The
-/// connection is dropped if there is no desk then.
+/// The desk of a connection; one without calls is made where there is no table at all. A refusal
+/// returns the connection. Whether there is one is asked before the opening and after it: no clause
+/// of `Desk::open` says that the tables of a refused store stay.
 fn found_or_made<S: Alter + Drop>(
     alloc: Global,
     conn: Connection<S>,
     owner: &Guid,
-) -> Result<Desk<S>, Refusal>
+) -> Result<Desk<S>, (Refusal, Connection<S>)>
     requires { conn.in_transaction ≡ false }
     ensures found { IfOk result (FindsOrMakes S.Store conn owner.now) }
-    ensures named { IfErr result IsFindingRefusal }
+    ensures refused { IfErr result (λ e. RefusesFinding S.Store conn owner.now e.0 e.1) }
+    ensures named { IfErr result (λ e. IsFindingRefusal e.0) }
 {
-    last_commit_is_shown(&conn);
-    stop_leaves_what_is_shown(&conn);
-    match Desk::open(alloc, conn) {
+    let was_bare = is_bare(conn.schema());
+    match open_over(alloc, conn) {
         Ok(desk) => Ok(desk),
         Err((refusal, conn)) => {
-            if refusal == Refusal::NotADesk && is_bare(conn.schema()) {
-                return match make_over(alloc, conn, owner) {
-                    Ok(desk) => Ok(desk),
-                    Err(refusal) => Err(refusal),
-                };
+            if refusal == Refusal::NotADesk && was_bare && is_bare(conn.schema()) {
+                match make_over(alloc, conn, owner) {
+                    Ok(desk) => return Ok(desk),
+                    Err((again, unmade)) => return Err((again, unmade)),
+                }
             }
-            let_go(conn);
-            Err(refusal)
+            Err((refusal, conn))
         }
     }
 }
@@ -217,21 +228,24 @@ fn found_there<S: Start>(
     path: &str,
     start: S,
     owner: &Guid,
-) -> Result<FileDesk<S>, Refusal>
+) -> Result<FileDesk<S>, (Refusal, Left<FileFrom<S>>)>
     ensures found { IfOk result (IsFoundOrMade ⟦<FileFrom<S> as Disk>⟧ S.Start owner.now) }
-    ensures named { IfErr result IsFindingRefusal }
+    ensures refused { IfErr result (λ e.
+        IsNotFound ⟦<FileFrom<S> as Disk>⟧ S.Start owner.now e.0 e.1.rest) }
+    ensures named { IfErr result (λ e. IsFindingRefusal e.0) }
 {
     match connect(rt, path, Room::ToGrow, start) {
         Ok(conn) => match found_or_made(rt.alloc(), conn, owner) {
             Ok(desk) => Ok(desk),
-            Err(refusal) => Err(refusal),
+            Err((refusal, unfound)) => Err((refusal, Left::unclosed(unfound))),
         },
-        Err(refusal) => Err(refusal),
+        Err(refusal) => Err((refusal, Left::nothing())),
     }
 }
 
 /// Opens a file, which is created if it doesn't exist, for its user alone, and the desk in it. In a
-/// file without tables, indexes and views it makes one with this owner and without calls.
+/// file without tables, indexes and views it makes one with this owner and without calls. A refusal
+/// returns what is left of the file.
 ///
 /// `File`: as for `connect`. `NotADesk`, `Version`: the file has tables or views, and no desk that
 /// this program knows. `NoMemory`: memory was refused. `Store`: the store failed.
@@ -240,68 +254,14 @@ pub fn open_or_make<S: Start>(
     path: &str,
     start: S,
     owner: &Guid,
-) -> Result<FileDesk<S>, Refusal>
+) -> Result<FileDesk<S>, (Refusal, Left<FileFrom<S>>)>
     ensures found { IfOk result (IsFoundOrMade ⟦<FileFrom<S> as Disk>⟧ S.Start owner.now) }
-    ensures named { IfErr result IsFindingRefusal }
+    ensures refused { IfErr result (λ e.
+        IsNotFound ⟦<FileFrom<S> as Disk>⟧ S.Start owner.now e.0 e.1.rest) }
+    ensures named { IfErr result (λ e. IsFindingRefusal e.0) }
 {
     match make_private(rt, path) {
         Ok(()) => found_there(rt, path, start, owner),
-        Err(refusal) => Err(refusal),
+        Err(refusal) => Err((refusal, Left::nothing())),
     }
-}
-
-/// Closes a desk's file: the contents of its log are copied into it. After a failure both files
-/// together are the desk.
-fn close<D: Disk + Drop>(desk: Desk<FileStore<D>>) -> Result<(), Refusal>
-    ensures closed { OnOk result (IsClosed D.Disk desk) }
-    ensures named { IfErr result IsClosingRefusal }
-{
-    match desk.close() {
-        Ok(_) => Ok(()),
-        Err((refusal, store)) => {
-            drop(store.close());
-            Err(refusal)
-        }
-    }
-}
-
-/// Whether a desk that answered this must be opened again.
-fn is_lasting(refusal: Refusal) -> bool
-    ensures lasting { IsLasting refusal → result ≡ true }
-    ensures only { result ≡ true → IsLasting refusal }
-{
-    matches!(refusal, Refusal::Store | Refusal::Reopen)
-}
-
-/// Whether the desk must be opened again after this work, so that it can't be closed.
-fn needs_reopening(work: &Result<Outcome, Fault>) -> bool
-    ensures lasting { IfErr work.now (λ fault. IsLasting fault.refusal → result ≡ true) }
-    ensures only { result ≡ true → FailsForGood work.now }
-{
-    match work {
-        Ok(_) => false,
-        Err(fault) => is_lasting(fault.refusal),
-    }
-}
-
-/// Closes the desk after its work. A desk that failed is dropped: its next opening finds what it
-/// stored.
-pub fn close_after<D: Disk + Drop>(desk: Desk<FileStore<D>>, work: Result<Outcome, Fault>) -> Ending
-    ensures work { result.work ≡ work }
-    ensures closed { Ends D.Disk desk result }
-    ensures closing { IfSome result.closing (IsRow IsClosingRefusal) }
-    ensures let_go { IfErr work (λ fault. IsLasting fault.refusal → result.closing ≡ None) }
-{
-    if needs_reopening(&work) {
-        let_go(desk.release());
-        return Ending {
-            work,
-            closing: None,
-        };
-    }
-    let closing = match close(desk) {
-        Ok(()) => None,
-        Err(refusal) => Some(Fault::from(refusal)),
-    };
-    Ending { work, closing }
 }

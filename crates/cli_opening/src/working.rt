@@ -9,10 +9,15 @@ ghost use Rattle.cli_lines.specs.declared.fault.Fault.{Fault as Row};
 ghost use Rattle.desk_store.specs.declared.desk.Desk.{Desk as Shown};
 ghost use Rattle.cli_opening.specs.Faults.{IsClosingRefusal, IsLasting, IsMakingRefusal};
 ghost use Rattle.cli_opening.specs.Faults.{IsOfOpening, IsOpeningRefusal};
-ghost use Rattle.cli_opening.specs.Works.{IsUnopened, MakesDesk, WorksAt, WorksOn};
+ghost use Rattle.cli_opening.specs.Leaving.{ending_of};
+ghost use Rattle.cli_opening.specs.Refusing.{IsNotMade};
+ghost use Rattle.cli_opening.specs.Works.{IsUnopened, LeavesUnopened, MakesDesk};
+ghost use Rattle.cli_opening.specs.Works.{WorksLeaving, WorksOn, WorksOnLeaving};
 
+use crate::closing::close_after;
 use crate::connecting::Room;
-use crate::desk_file::{close_after, make, open};
+use crate::desk_file::{make, open};
+use crate::ended::Ended;
 use cli_lines::{Ending, Fault, Outcome};
 use desk_bytes::Guid;
 use desk_store::Desk;
@@ -62,8 +67,9 @@ fn work_at<D: Disk + Drop, W: Work>(
     desk: Desk<FileStore<D>>,
     work: W,
     output: &mut W::Output,
-) -> Ending
-    ensures did { WorksAt D.Disk (W.Work.does _ over_files work output.old output.new desk) result }
+) -> Ended<D>
+    ensures did { WorksLeaving D.Disk (W.Work.does _ over_files work output.old output.new desk)
+        (ending_of result) result.left.rest }
     ensures left { IfOk result.work (W.Work.leaves output.new) }
     ensures named { IfErr result.work W.Work.stops }
     ensures apart { IfErr result.work (λ fault. IsOfOpening fault.refusal → ⊥) }
@@ -75,7 +81,38 @@ fn work_at<D: Disk + Drop, W: Work>(
 }
 
 /// Does the work on the desk in a file, and closes it. A desk of version 1 becomes one of
-/// version 2.
+/// version 2. What is left of the desk's files is returned.
+///
+/// The faults are those of `on_desk`.
+pub fn work_on_desk<S: Start, W: Work>(
+    rt: &HostRuntime,
+    path: &str,
+    start: S,
+    room: Room,
+    work: W,
+    output: &mut W::Output,
+) -> Ended<FileFrom<S>>
+    ensures did { (LeavesUnopened ⟦<FileFrom<S> as Disk>⟧ S.Start (ending_of result)
+        result.left.rest × (output.new ≡ output.old))
+        ⊎ WorksOnLeaving ⟦<FileFrom<S> as Disk>⟧ S.Start
+        (W.Work.does _ over_files work output.old output.new) (ending_of result)
+        result.left.rest }
+    ensures left { IfOk result.work (W.Work.leaves output.new) }
+    ensures named { IfErr result.work (λ fault.
+        IsRow IsOpeningRefusal fault ⊎ W.Work.stops fault) }
+    ensures first { IfErr result.work (λ fault. IsOfOpening fault.refusal
+        → (result.closing ≡ None) × (output.new ≡ output.old)) }
+    ensures closing { IfSome result.closing (IsRow IsClosingRefusal) }
+    ensures let_go { IfErr result.work (λ fault. IsLasting fault.refusal → result.closing ≡ None) }
+{
+    match open(rt, path, start, room) {
+        Ok(desk) => work_at(rt, desk, work, output),
+        Err((refusal, left)) => Ended::without_desk(refusal, left),
+    }
+}
+
+/// Does the work on the desk in a file, closes it, and lets go of what is left. A desk of version 1
+/// becomes one of version 2.
 ///
 /// The faults of the desk's file come first. File: the file doesn't exist, can't be opened, isn't a
 /// database, or is in use. NotADesk, Version: it holds no desk that this program knows. NoMemory:
@@ -89,7 +126,7 @@ pub fn on_desk<S: Start, W: Work>(
     work: W,
     output: &mut W::Output,
 ) -> Ending
-    ensures did { (IsUnopened result × (output.new ≡ output.old))
+    ensures did { (IsUnopened ⟦<FileFrom<S> as Disk>⟧ S.Start result × (output.new ≡ output.old))
         ⊎ WorksOn ⟦<FileFrom<S> as Disk>⟧ S.Start
         (W.Work.does _ over_files work output.old output.new) result }
     ensures left { IfOk result.work (W.Work.leaves output.new) }
@@ -100,27 +137,31 @@ pub fn on_desk<S: Start, W: Work>(
     ensures closing { IfSome result.closing (IsRow IsClosingRefusal) }
     ensures let_go { IfErr result.work (λ fault. IsLasting fault.refusal → result.closing ≡ None) }
 {
-    match open(rt, path, start, room) {
-        Ok(desk) => work_at(rt, desk, work, output),
-        Err(refusal) => Ending::without_desk(refusal),
-    }
+    work_on_desk(rt, path, start, room, work, output).ending()
 }
 
 /// Makes a desk with this owner and without calls in a file. One that doesn't exist is created, and
-/// its user alone may read it.
+/// its user alone may read it. What is left of the desk's files is returned.
 ///
 /// Exists: the file has a table, an index or a view with a name of the desk's already. File: it
 /// can't be opened or created, isn't a database, or is in use. NoMemory: memory was refused. Store:
 /// the store failed. A close that fails has its own fault (`closing`).
-pub fn make_desk<S: Start>(rt: &HostRuntime, path: &str, start: S, owner: &Guid) -> Ending
+pub fn make_desk<S: Start>(
+    rt: &HostRuntime,
+    path: &str,
+    start: S,
+    owner: &Guid,
+) -> Ended<FileFrom<S>>
     ensures done { IfOk result.work (λ outcome. outcome ≡ Outcome.Done) }
     ensures named { IfErr result.work (IsRow IsMakingRefusal) }
     ensures made { OnOk result.work (MakesDesk ⟦<FileFrom<S> as Disk>⟧ S.Start owner.now result) }
+    ensures unmade { IfErr result.work (λ fault. IsNotMade ⟦<FileFrom<S> as Disk>⟧ S.Start owner.now
+        fault.refusal result.left.rest) }
     ensures first { OnErr result.work (result.closing ≡ None) }
     ensures closing { IfSome result.closing (IsRow IsClosingRefusal) }
 {
     match make(rt, path, start, owner) {
         Ok(desk) => close_after(desk, Ok(Outcome::Done)),
-        Err(refusal) => Ending::without_desk(refusal),
+        Err((refusal, left)) => Ended::without_desk(refusal, left),
     }
 }

@@ -89,7 +89,8 @@ pub fn answer_from<S: Start, R: Read + Drop, W: Write>(
     reader: R,
     writer: &mut W,
 ) -> Ending
-    ensures answered { (IsUnopened result × Keeps (W.contents writer.old) (W.contents writer.new))
+    ensures answered { (IsUnopened ⟦<FileFrom<S> as Disk>⟧ S.Start result
+        × Keeps (W.contents writer.old) (W.contents writer.new))
         ⊎ AtADesk S.Start (AnswersOnce ⟦<FileFrom<S> as Disk>⟧ (R.remaining reader)
         (W.contents writer.old) (W.contents writer.new) result) }
     ensures done { IfOk result.work (λ outcome. outcome ≡ Outcome.Done) }
@@ -100,15 +101,17 @@ pub fn answer_from<S: Start, R: Read + Drop, W: Write>(
     ensures closing { IfSome result.closing (IsRow IsClosingRefusal) }
     ensures let_go { IfErr result.work (λ fault. IsLasting fault.refusal → result.closing ≡ None) }
 {
-    let Ok(routes) = Routes::new(rt.alloc()) else {
-        return Ending::without_desk(Refusal::NoMemory);
-    };
-    let request: OneRequest<'_, R, W> = OneRequest {
-        routes: &routes,
-        reader,
-        writer: PhantomData,
-    };
-    on_desk(rt, path, start, Room::AsItIs, request, writer)
+    match Routes::new(rt.alloc()) {
+        Ok(routes) => {
+            let request: OneRequest<'_, R, W> = OneRequest {
+                routes: &routes,
+                reader,
+                writer: PhantomData,
+            };
+            on_desk(rt, path, start, Room::AsItIs, request, writer)
+        }
+        Err(_) => Ending::without_desk(Refusal::NoMemory),
+    }
 }
 
 /// Serves `count` connections at this port of 127.0.0.1, for a desk, as a subcommand's work.
@@ -168,7 +171,7 @@ impl<'a> Work for Connections<'a> {
 /// opened, or no connection could be accepted. Store, Reopen: that response was written, and the
 /// desk must be opened again.
 pub fn serve_from<S: Start>(rt: &HostRuntime, path: &str, start: S, port: u16, count: u32) -> Ending
-    ensures served { IsUnopened result
+    ensures served { IsUnopened ⟦<FileFrom<S> as Disk>⟧ S.Start result
         ⊎ AtADesk S.Start (Serves ⟦<FileFrom<S> as Disk>⟧ count result) }
     ensures done { IfOk result.work (λ outcome. outcome ≡ Outcome.Done) }
     ensures named { IfErr result.work (IsRow (λ refusal.
@@ -177,13 +180,15 @@ pub fn serve_from<S: Start>(rt: &HostRuntime, path: &str, start: S, port: u16, c
     ensures closing { IfSome result.closing (IsRow IsClosingRefusal) }
     ensures let_go { IfErr result.work (λ fault. IsLasting fault.refusal → result.closing ≡ None) }
 {
-    let Ok(routes) = Routes::new(rt.alloc()) else {
-        return Ending::without_desk(Refusal::NoMemory);
-    };
-    let connections = Connections {
-        routes: &routes,
-        port,
-        count,
-    };
-    on_desk(rt, path, start, Room::ToGrow, connections, &mut ())
+    match Routes::new(rt.alloc()) {
+        Ok(routes) => {
+            let connections = Connections {
+                routes: &routes,
+                port,
+                count,
+            };
+            on_desk(rt, path, start, Room::ToGrow, connections, &mut ())
+        }
+        Err(_) => Ending::without_desk(Refusal::NoMemory),
+    }
 }

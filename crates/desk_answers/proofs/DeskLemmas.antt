@@ -40,10 +40,14 @@ not_true h = cc
 -- a desk that needn't be opened again isn't due to say so
 never_reopen : (reading : Reading) → IsTrue (may_refuse reading refusals.Reopen) → ⊥
 never_reopen read.Requests h = not_true h
+never_reopen (read.RequestsFrom n) h = not_true h
 never_reopen (read.Request k) h = not_true h
 never_reopen read.Proposals h = not_true h
+never_reopen (read.ProposalsFrom n) h = not_true h
 never_reopen (read.Proposal k) h = not_true h
 never_reopen (read.Impact k) h = not_true h
+never_reopen read.Waiting h = not_true h
+never_reopen read.Changes h = not_true h
 never_reopen read.Dbx h = not_true h
 never_reopen read.Db h = not_true h
 never_reopen read.Level h = not_true h

@@ -55,6 +55,7 @@ refusal_at n =
     else if n == 46 then refusal.Exists
     else if n == 47 then refusal.Minute
     else if n == 48 then refusal.Owner
+    else if n == 49 then refusal.Mismatch
     else if n == 50 then refusal.BadHead
     else if n == 51 then refusal.BadField
     else if n == 52 then refusal.BadBody
@@ -113,6 +114,7 @@ refusal_at-number_of refusal.File = refl
 refusal_at-number_of refusal.Exists = refl
 refusal_at-number_of refusal.Minute = refl
 refusal_at-number_of refusal.Owner = refl
+refusal_at-number_of refusal.Mismatch = refl
 refusal_at-number_of refusal.BadHead = refl
 refusal_at-number_of refusal.BadField = refl
 refusal_at-number_of refusal.BadBody = refl

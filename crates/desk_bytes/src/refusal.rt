@@ -114,6 +114,8 @@ pub enum Refusal {
     Minute,
     /// The desk in the database has another owner than the one given.
     Owner,
+    /// The request or proposal of that number isn't the one that `If-Match` names.
+    Mismatch,
     /// The head of an HTTP request is wrong or too long, or the request is cut short.
     BadHead,
     /// A field of an HTTP request is missing, wrong or given twice.
@@ -194,6 +196,7 @@ impl Refusal {
             Refusal::Exists => 46,
             Refusal::Minute => 47,
             Refusal::Owner => 48,
+            Refusal::Mismatch => 49,
             Refusal::BadHead => 50,
             Refusal::BadField => 51,
             Refusal::BadBody => 52,
@@ -258,6 +261,7 @@ impl Refusal {
             Refusal::Exists => "Exists",
             Refusal::Minute => "Minute",
             Refusal::Owner => "Owner",
+            Refusal::Mismatch => "Mismatch",
             Refusal::BadHead => "BadHead",
             Refusal::BadField => "BadField",
             Refusal::BadBody => "BadBody",
@@ -323,6 +327,7 @@ impl Refusal {
             | Refusal::Exists
             | Refusal::Minute
             | Refusal::Owner
+            | Refusal::Mismatch
             | Refusal::BadHead
             | Refusal::BadField
             | Refusal::BadBody

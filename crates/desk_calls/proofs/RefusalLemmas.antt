@@ -101,10 +101,14 @@ impact_by_rules _ h = absurd (not_true h)
 
 due_by_rules : (reading : Reading) (r : Refusal) → IsTrue (may_refuse reading r) → IsTrue (may_answer r)
 due_by_rules read.Requests r h = turned_by_rules r h
+due_by_rules (read.RequestsFrom n) r h = turned_by_rules r h
 due_by_rules (read.Request k) r h = request_by_rules r h
 due_by_rules read.Proposals r h = turned_by_rules r h
+due_by_rules (read.ProposalsFrom n) r h = turned_by_rules r h
 due_by_rules (read.Proposal k) r h = proposal_by_rules r h
 due_by_rules (read.Impact k) r h = impact_by_rules r h
+due_by_rules read.Waiting r h = turned_by_rules r h
+due_by_rules read.Changes r h = turned_by_rules r h
 due_by_rules read.Dbx r h = absurd (not_true h)
 due_by_rules read.Db r h = absurd (not_true h)
 due_by_rules read.Level r h = absurd (not_true h)
@@ -173,6 +177,7 @@ placeless refusals.File x e = absurd (not_some x e)
 placeless refusals.Exists x e = absurd (not_some x e)
 placeless refusals.Minute x e = absurd (not_some x e)
 placeless refusals.Owner x e = absurd (not_some x e)
+placeless refusals.Mismatch x e = tells_same refused.Mismatch x e
 placeless refusals.BadHead x e = tells_same refused.BadHead x e
 placeless refusals.BadField x e = tells_same refused.BadField x e
 placeless refusals.BadBody x e = tells_same refused.BadBody x e

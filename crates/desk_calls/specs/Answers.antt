@@ -1,5 +1,5 @@
 -- The answer of a desk that shows a history to a call, and the history after it.
-use Rattle.std.specs.Prelude.{◌≡◌, ◌⊎◌, ⊤, ℕ, List, None, Result, Ok, Err}
+use Rattle.std.specs.Prelude.{◌≡◌, ◌⊎◌, ⊤, ℕ, List, Bool, true, false, None, Result, Ok, Err}
 use Rattle.std.specs.declared.alloc.AllocError.{AllocError}
 use Rattle.desk_bytes.specs.declared.refusal.Refusal.{Refusal}
 use Rattle.desk_texts.specs.declared.caller.Caller.TheVariants as callers
@@ -23,9 +23,11 @@ use Rattle.http_requests.specs.declared.ask.ImageAsked.TheVariants as asked
 use Rattle.http_responses.specs.Refusals.{outage_refusal}
 use Rattle.http_responses.specs.declared.outage.Outage.TheVariants as outage
 use Rattle.http_responses.specs.declared.refused.Refused.{Refused}
+use Rattle.http_responses.specs.declared.refused.Refused.TheVariants as refused
 use Rattle.desk_service.specs.ImageFacts.{IsFactsOf}
 use Rattle.desk_calls.specs.Bodies.{ReadsBytes, ReadsImage, RefusesImage, RefusesAs}
 use Rattle.desk_calls.specs.Desks.{is_text_of}
+use Rattle.desk_calls.specs.Tags.{is_mismatch}
 use Rattle.desk_history.specs.Called.{called}
 use Rattle.desk_calls.specs.declared.answers.Answer.{Answer}
 use Rattle.desk_calls.specs.declared.answers.Answer.TheVariants as answer
@@ -137,9 +139,15 @@ AnswersTask owner cs p (task.Image with image) = AnswersImage cs p.name with ima
 AnswersTask owner cs p (task.Command key command) = IsTaken cs p.name key (Ok command)
 AnswersTask owner cs p (task.Bytes key format bytes) = IsReadAndTaken cs p.name key (ReadsBytes format bytes)
 
--- the same for a call
+-- the answer to a task whose subject has another tag, or not. own: if it has, the command is refused
+-- for that before the desk's rules, its image isn't read, and its key stays free
+abbrev pub AnswersUnless : Bool → List ℕ → History → Person → Task → Answer → History → Type 0
+AnswersUnless true owner cs p task a later = (a ≡ answer.Refused refused.Mismatch) × (later ≡ cs)
+AnswersUnless false owner cs p task a later = AnswersTask owner cs p task a later
+
+-- the same for a call, with the tag that the caller sent, if any
 abbrev pub AnswersCall : List ℕ → History → Call → Answer → History → Type 0
-AnswersCall owner cs call = AnswersTask owner cs call.person call.task
+AnswersCall owner cs call = AnswersUnless (is_mismatch cs call) owner cs call.person call.task
 
 -- ---- failures
 

@@ -1,13 +1,16 @@
 //! Calls of the desk: a person, and a task.
+use desk_bytes::Digest;
 use desk_exports::{Octets, Reading};
 use desk_texts::{Command, Key, Person};
 use http_requests::{BytesAsked, ImageAsked};
 use pe_image::Pieces;
 
-/// A call of the desk: the caller, and the task.
+/// A call of the desk: the caller, the tag that the caller sent, if any, and the task.
 #[derive(Drop)]
 pub struct Call {
     pub person: Person,
+    /// The tag that what the command is about must have (If-Match; RFC 9110, section 13.1.1).
+    pub tag: Option<Digest>,
     pub task: Task,
 }
 

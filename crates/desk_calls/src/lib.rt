@@ -6,13 +6,19 @@ mod answers;
 mod bodies;
 mod call;
 mod laws;
+mod matching;
 mod reading;
 mod refusing;
 mod serving;
+mod subject;
 mod taking;
 
 pub use answering::Answering;
 pub use answers::Answer;
 pub use call::{Call, Task};
-pub use laws::{refusals_change_nothing, submitters_are_answered_by_own};
+pub use laws::{
+    matched_commands_are_about_their_tag, refusals_change_nothing, repeats_match, shown_tags_stay,
+    submitters_are_answered_by_own, tags_stay,
+};
 pub use serving::{answer, caller};
+pub use subject::Subject;

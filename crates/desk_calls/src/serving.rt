@@ -9,13 +9,14 @@ use crate::answering::Answering;
 use crate::answers::Answer;
 use crate::bodies::{command_of, returned_file, submission};
 use crate::call::{Call, Task};
+use crate::matching::is_mismatch;
 use crate::reading::{introduce, judge, show, tell};
 use crate::refusing::outage;
 use crate::taking::take;
 use desk_service::token_digest;
 use desk_texts::{Person, PersonName};
 use http_requests::ImageAsked;
-use http_responses::Outage;
+use http_responses::{Outage, Refused};
 use pe_image::Pieces;
 use std::alloc::Global;
 
@@ -71,7 +72,33 @@ fn answer_image<D: Answering>(
     }
 }
 
-/// Answers a call. A body is read before the desk is asked, so its faults come first. Takes memory.
+/// Answers a person's task. A body is read before the desk is asked, so its faults come first. Takes
+/// memory.
+fn answer_task<D: Answering>(alloc: Global, desk: &mut D, person: Person, task: Task) -> Answer
+    ensures served { D.clean desk.new → (owner : List ℕ) (cs : History)
+        → D.shows desk.old owner cs
+        → spec.Serves (D.shows desk.new owner) (D.failed desk.new) cs
+        (spec.AnswersTask owner cs person task) result }
+    ensures before { D.clean desk.new → D.clean desk.old }
+    ensures poisons { result ≡ spec.store_failed → D.failed desk.new }
+    ensures closed { D.failed desk.old
+        → spec.IsClosed (λ owner cs. spec.AnswersTask owner cs person task) result
+        × (desk.new ≡ desk.old) }
+{
+    match task {
+        Task::Read(reading) => show(desk, person, reading),
+        Task::Me => introduce(person),
+        Task::Image(asked, image) => answer_image(alloc, desk, person.name, asked, image),
+        Task::Command(key, command) => take(desk, person.name, &key, Ok(Ok(command))),
+        Task::Bytes(key, asked, bytes) => {
+            take(desk, person.name, &key, command_of(alloc, asked, bytes))
+        }
+    }
+}
+
+/// Answers a call. If the caller sent a tag, and the command is about a request or a proposal, that
+/// is read first, by the same caller: a command that is about something of another tag is refused.
+/// Then a body is read before the desk is asked, so its faults come first. Takes memory.
 ///
 /// `Unavailable`: the desk couldn't answer. `NoMemory`: memory was refused, and nothing changed.
 /// `Store`: the store failed. `Reopen`: the store failed before. Such a desk may still give an
@@ -88,14 +115,13 @@ pub fn answer<D: Answering>(alloc: Global, desk: &mut D, call: Call) -> Answer
         → spec.IsClosed (λ owner cs. spec.AnswersCall owner cs call) result
         × (desk.new ≡ desk.old) }
 {
-    let Call { person, task } = call;
-    match task {
-        Task::Read(reading) => show(desk, person, reading),
-        Task::Me => introduce(person),
-        Task::Image(asked, image) => answer_image(alloc, desk, person.name, asked, image),
-        Task::Command(key, command) => take(desk, person.name, &key, Ok(Ok(command))),
-        Task::Bytes(key, asked, bytes) => {
-            take(desk, person.name, &key, command_of(alloc, asked, bytes))
-        }
+    let is_other = match is_mismatch(alloc, desk, &call) {
+        Ok(is_other) => is_other,
+        Err(outage) => return Answer::Unavailable(outage),
+    };
+    if is_other {
+        return Answer::Refused(Refused::Mismatch);
     }
+    let Call { person, task, .. } = call;
+    answer_task(alloc, desk, person, task)
 }

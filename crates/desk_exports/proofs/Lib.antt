@@ -1,4 +1,5 @@
 pub mod LengthLemmas
+pub mod ListPartLemmas
 pub mod MinuteLemmas
 pub mod MinutePartLemmas
 pub mod OrderLemmas

@@ -1,8 +1,12 @@
 pub mod Bodies
+pub mod Changes
 pub mod Exports
 pub mod Laws
+pub mod ListParts
 pub mod MinutesShown
 pub mod Orders
 pub mod Readings
 pub mod Reports
+pub mod Tags
+pub mod Waiting
 pub mod Worked

@@ -8,13 +8,16 @@ use Rattle.desk_texts.specs.declared.command.Person.{Person}
 use Rattle.desk_texts.specs.declared.role.Role.{Role}
 use Rattle.desk_texts.specs.declared.shown.ShownRequest.{ShownRequest}
 use Rattle.desk_history.specs.Calls.{History}
+use Rattle.desk_exports.specs.Changes.{changes_for}
 use Rattle.desk_history.specs.Impact.{Impact}
 use Rattle.desk_history.specs.ImpactShown.{ShowsImpact, impact_for}
+use Rattle.desk_exports.specs.ListParts.{proposals_from, requests_from}
 use Rattle.desk_history.specs.PeopleShown.{ShowsPeople, people_for}
 use Rattle.desk_history.specs.ProposalShown.{proposal_for}
 use Rattle.desk_history.specs.Proposals.{Proposal}
 use Rattle.desk_history.specs.Roles.{is_officer}
 use Rattle.desk_history.specs.Shown.{AreShown, IsGiven, IsShown, Whole, proposals_for, request_for, requests_for, shown_proposal}
+use Rattle.desk_exports.specs.Waiting.{Waiting, waiting_for}
 use Rattle.desk_history.specs.declared.impact.ShownImpact.{ShownImpact}
 use Rattle.desk_history.specs.declared.rows.ProposalRow.{ProposalRow}
 use Rattle.desk_history.specs.declared.shown_person.ShownPerson.{ShownPerson}
@@ -53,6 +56,14 @@ module _ {L : Type 0} (holds : L → List ShownRequest → Type 0) where
   abbrev pub GivesImpact : ℕ → Impact → Shown L → Type 0
   GivesImpact k w s = (impact : ShownImpact) × ShowsImpact w impact × (s ≡ shown.Impact k impact)
 
+  -- what waits is shown
+  abbrev pub GivesWaiting : History → Waiting → Shown L → Type 0
+  GivesWaiting cs w s = (list : L) × HoldsShown holds w.requests list × (s ≡ shown.Waiting list (map (shown_proposal cs) w.proposals))
+
+  -- the number that tells of changes is shown
+  abbrev pub GivesChanges : ℕ → Shown L → Type 0
+  GivesChanges number s = s ≡ shown.Changes number
+
   -- own: only officers are given the report
   abbrev pub report_to : Role → History → Result (Shown L) Refusal
   report_to role cs = if is_officer role then Ok (shown.Report (report cs)) else Err refusals.NotYourRole
@@ -68,10 +79,14 @@ module _ {L : Type 0} (holds : L → List ShownRequest → Type 0) where
   -- what the person is shown of a desk with this owner and history, or why nothing is shown
   abbrev pub IsShownTo : List ℕ → History → Person → Reading → Result (Shown L) Refusal → Type 0
   IsShownTo owner cs p read.Requests given = IsGiven (requests_for cs (callers.Person p.name)) given GivesRequests
+  IsShownTo owner cs p (read.RequestsFrom n) given = IsGiven (requests_from cs (callers.Person p.name) n) given GivesRequests
   IsShownTo owner cs p (read.Request k) given = IsGiven (request_for cs (callers.Person p.name) k) given GivesRequest
   IsShownTo owner cs p read.Proposals given = IsGiven (proposals_for cs (callers.Person p.name)) given (GivesProposals cs)
+  IsShownTo owner cs p (read.ProposalsFrom n) given = IsGiven (proposals_from cs (callers.Person p.name) n) given (GivesProposals cs)
   IsShownTo owner cs p (read.Proposal k) given = IsGiven (proposal_for cs (callers.Person p.name) k) given GivesProposal
   IsShownTo owner cs p (read.Impact k) given = IsGiven (impact_for cs (callers.Person p.name) k) given (GivesImpact k)
+  IsShownTo owner cs p read.Waiting given = IsGiven (waiting_for cs (callers.Person p.name)) given (GivesWaiting cs)
+  IsShownTo owner cs p read.Changes given = IsGiven (changes_for cs (callers.Person p.name)) given GivesChanges
   IsShownTo owner cs p read.Dbx given = given ≡ Ok (shown.Dbx (dbx owner cs))
   IsShownTo owner cs p read.Db given = given ≡ Ok (shown.Db (db owner cs))
   IsShownTo owner cs p read.Level given = given ≡ Ok (shown.Level (level cs))
@@ -113,10 +128,14 @@ hides_impact refusal = hides_proposal refusal
 -- whether a caller who asks to read this may be refused so. A device's failure is none of these
 abbrev pub may_refuse : Reading → Refusal → Bool
 may_refuse read.Requests refusal = turns_away refusal
+may_refuse (read.RequestsFrom n) refusal = turns_away refusal
 may_refuse (read.Request k) refusal = hides_request refusal
 may_refuse read.Proposals refusal = turns_away refusal
+may_refuse (read.ProposalsFrom n) refusal = turns_away refusal
 may_refuse (read.Proposal k) refusal = hides_proposal refusal
 may_refuse (read.Impact k) refusal = hides_impact refusal
+may_refuse read.Waiting refusal = turns_away refusal
+may_refuse read.Changes refusal = turns_away refusal
 may_refuse read.Dbx refusal = false
 may_refuse read.Db refusal = false
 may_refuse read.Level refusal = false

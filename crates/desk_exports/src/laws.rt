@@ -16,9 +16,11 @@ ghost use Rattle.desk_history.specs.Tables.{level_rows};
 ghost use Rattle.desk_exports.specs.Exports.{db, db_lists, dbx, dbx_lists, entries_of, level, level_components, revoked};
 ghost use Rattle.desk_exports.specs.Exports.{revoked_bodies, revoked_bodiless, shim, shim_lists};
 ghost use Rattle.desk_exports.specs.Laws as law;
+ghost use Rattle.desk_exports.specs.ListParts as part;
 ghost use Rattle.desk_exports.specs.MinutesShown as shown;
 ghost use Rattle.desk_exports.specs.Orders.{IsInOrder};
 ghost use Rattle.desk_exports.specs.Worked as worked;
+ghost use Rattle.desk_exports.specs.Worked.Waiting as waiting;
 
 /// An export is its parts, one after another: of dbx, a head and its entries for each kind that is
 /// revoked; of shim's form, a head and entries for the digests, a list for each body, and a head and
@@ -94,6 +96,20 @@ pub fn minutes_come_in_parts()
     ensures joined { shown.PartsJoin }
     ensures all { shown.PartsEnd }
     ensures later { shown.FirstLinesStay }
+{}
+
+/// The requests, and the proposals, that a caller is shown are their parts, one after another.
+pub fn lists_come_in_parts()
+    ensures requests { part.RequestsComeInParts }
+    ensures proposals { part.ProposalsComeInParts }
+{}
+
+/// What waits for people of each role, lists in parts, and the number that tells of changes are those
+/// that were written by hand.
+pub fn waiting_is_written()
+    ensures waits { waiting.TellsWaiting }
+    ensures parts { waiting.TellsParts }
+    ensures changes { waiting.TellsChanges }
 {}
 
 /// Exports of worked histories are those that were written by hand.

@@ -11,11 +11,13 @@ mod request_list;
 mod shown;
 mod shown_people;
 mod shown_proposals;
+mod tag;
 
 pub use export::Export;
 pub use laws::{
     exports_are_in_order, exports_are_spelt, exports_are_their_parts, exports_are_written,
-    lengths_come_true, minutes_come_in_parts, minutes_go_on, shim_revokes_the_same,
+    lengths_come_true, lists_come_in_parts, minutes_come_in_parts, minutes_go_on,
+    shim_revokes_the_same, waiting_is_written,
 };
 pub use octets::Octets;
 pub use reading::Reading;
@@ -23,3 +25,4 @@ pub use request_list::RequestList;
 pub use shown::Shown;
 pub use shown_people::ShownPeople;
 pub use shown_proposals::ShownProposals;
+pub use tag::proposal_tag;

@@ -7,14 +7,22 @@ use desk_texts::{ProposalNumber, RequestNumber};
 pub enum Reading {
     /// The requests that the person is shown.
     Requests,
+    /// Of them those with this number or a later one, at most 1,000.
+    RequestsFrom(u64),
     /// One of the requests.
     Request(RequestNumber),
     /// The proposals of officers.
     Proposals,
+    /// Of them those with this number or a later one, at most 1,000.
+    ProposalsFrom(u64),
     /// One of the proposals, with all that it names.
     Proposal(ProposalNumber),
     /// What a Confirm of this proposal would do.
     Impact(ProposalNumber),
+    /// The requests and proposals that wait for the person.
+    Waiting,
+    /// A number that changes whenever what the person may see of requests or proposals changed.
+    Changes,
     Dbx,
     Db,
     Level,

@@ -5,8 +5,8 @@ use crate::shown_proposals::ShownProposals;
 use desk_history::{ProposalRow, ShownImpact};
 use desk_texts::{ProposalNumber, ShownRequest};
 
-/// What a person is shown, each by the reading of its name. An `L` holds the requests, which may be
-/// written into it as they are read.
+/// What a person is shown, each by the reading of its name, or of a part of it. An `L` holds the
+/// requests, which may be written into it as they are read.
 #[derive(Debug, Drop)]
 pub enum Shown<L> {
     /// Ascending by number.
@@ -18,6 +18,10 @@ pub enum Shown<L> {
     Proposal(ProposalRow),
     /// Of the proposal of this number.
     Impact(ProposalNumber, ShownImpact),
+    /// What waits for the person, each ascending by number.
+    Waiting(L, ShownProposals),
+    /// The number that tells of changes.
+    Changes(u64),
     /// Signature lists.
     Dbx(Octets),
     /// Signature lists.

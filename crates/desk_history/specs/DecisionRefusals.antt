@@ -53,6 +53,7 @@ may_answer refusals.File = false
 may_answer refusals.Exists = false
 may_answer refusals.Minute = false
 may_answer refusals.Owner = false
+may_answer refusals.Mismatch = false
 may_answer refusals.BadHead = false
 may_answer refusals.BadField = false
 may_answer refusals.BadBody = false

@@ -7,6 +7,7 @@ use Rattle.http_requests.specs.heads.Fields.{parts_of}
 use Rattle.http_requests.specs.heads.Heads.{FindsOf, HasHead}
 use Rattle.http_requests.specs.declared.heads.begun.Begun.TheVariants.{Head}
 use Rattle.http_requests.specs.Asked.{image_at, keyed_at}
+use Rattle.http_requests.specs.Tags.{tag_at}
 use Rattle.http_requests.specs.Wanted.{Want, wanted_of}
 use Rattle.http_requests.specs.declared.route.PostRoute.TheVariants.{Image, Command}
 use Rattle.http_requests.specs.declared.route.Route.{Route}
@@ -22,7 +23,7 @@ use Rattle.desk_http.proofs.AskLemmas.{head_reads_itself}
 use Rattle.desk_http.proofs.BodyLemmas.{body_followed}
 
 -- two heads of one input make the same request
-heads_ask_alike : (cs : History) (b : List ℕ) (h k : RequestHead) (r q : List ℕ) → HasHead b h r → HasHead b k q
+pub heads_ask_alike : (cs : History) (b : List ℕ) (h k : RequestHead) (r q : List ℕ) → HasHead b h r → HasHead b k q
     → due_of cs h r ≡ due_of cs k q
 heads_ask_alike cs b h k r q x y =
     let same = request_unique b h k r q x.reads y.reads in
@@ -38,9 +39,9 @@ route_followed : (p : Person) (w : Want) (rest more : List ℕ) (r : Route) → 
     → of_route p w (rest ++ more) r ≡ of_route p w rest r
 route_followed p w rest more (Get r) le = refl
 route_followed p w rest more (Post (Image r)) le =
-    ap (λ (image : Option (List ℕ)). with_image p (image_at r w) image) (body_followed w.size rest more le)
+    ap (λ (image : Option (List ℕ)). with_image p (image_at r w) (tag_at (Image r) w) image) (body_followed w.size rest more le)
 route_followed p w rest more (Post (Command r)) le =
-    ap (λ (body : Option (List ℕ)). with_body p (keyed_at r w) body) (body_followed w.size rest more le)
+    ap (λ (body : Option (List ℕ)). with_body p (keyed_at r w) (tag_at (Command r) w) body) (body_followed w.size rest more le)
 
 caller_followed : (w : Want) (rest more : List ℕ) (p : Option Person) → w.size ≤ length rest
     → of_caller w (rest ++ more) p ≡ of_caller w rest p

@@ -3,6 +3,7 @@ pub mod BodyLemmas
 pub mod ClosedLemmas
 pub mod EachLemmas
 pub mod InputLemmas
+pub mod MatchLemmas
 pub mod StoreLemmas
 pub mod SendLemmas
 pub mod StrangerLemmas

@@ -7,6 +7,7 @@ use Rattle.desk_texts.specs.declared.command.Person.{Person}
 use Rattle.http_requests.specs.heads.Fields.{parts_of}
 use Rattle.http_requests.specs.heads.Heads.{HasHead, HasNoHead}
 use Rattle.http_requests.specs.Asked.{read_at, image_at, keyed_at}
+use Rattle.http_requests.specs.Tags.{tag_at}
 use Rattle.http_requests.specs.Wanted.{Want, wanted_of}
 use Rattle.http_requests.specs.declared.ask.ImageAsked.{ImageAsked}
 use Rattle.http_requests.specs.declared.ask.KeyedAsked.{KeyedAsked}
@@ -36,46 +37,56 @@ abbrev pub caller_of : History → Option (List ℕ) → Option Person
 caller_of cs None = None
 caller_of cs (Some token) = person_with (sha256 token) cs
 
--- the call of a person for a task
-abbrev pub call_for : Person → Task → Due
-call_for p task = Ok (record { person = p; task = task })
+-- the call of a person for a task, with the tag that the person sent, if any
+abbrev pub call_for : Person → Option (List ℕ) → Task → Due
+call_for p tag task = Ok (record { person = p; tag = tag; task = task })
 
 -- a person's read, by the request's fields
 abbrev pub of_read : Person → Result ReadAsked AskedFault → Due
 of_read p (Err fault) = Err (refused_by_fields fault)
-of_read p (Ok (Desk reading)) = call_for p (task.Read reading)
-of_read p (Ok Me) = call_for p task.Me
+of_read p (Ok (Desk reading)) = call_for p None (task.Read reading)
+of_read p (Ok Me) = call_for p None task.Me
 
--- a person's request with an image, by its fields
-abbrev pub of_image : Person → List ℕ → Result ImageAsked AskedFault → Due
-of_image p image (Err fault) = Err (refused_by_fields fault)
-of_image p image (Ok asked) = call_for p (task.Image asked image)
+-- the call of a person for a task, by the request's tag
+abbrev pub tagged : Person → Result (Option (List ℕ)) AskedFault → Task → Due
+tagged p (Err fault) task = Err (refused_by_fields fault)
+tagged p (Ok tag) task = call_for p tag task
+
+-- a person's request with an image, by its other fields and its tag
+abbrev pub of_image : Person → List ℕ → Result (Option (List ℕ)) AskedFault → Result ImageAsked AskedFault → Due
+of_image p image tag (Err fault) = Err (refused_by_fields fault)
+of_image p image tag (Ok asked) = tagged p tag (task.Image asked image)
 
 -- the same, where the image may be cut short
-abbrev pub with_image : Person → Result ImageAsked AskedFault → Option (List ℕ) → Due
-with_image p asked None = Err refused.BadHead
-with_image p asked (Some image) = of_image p image asked
+abbrev pub with_image : Person → Result ImageAsked AskedFault → Result (Option (List ℕ)) AskedFault → Option (List ℕ) → Due
+with_image p asked tag None = Err refused.BadHead
+with_image p asked tag (Some image) = of_image p image tag asked
 
 -- the call of a person for a task; BadBody if the body has none
-abbrev pub called_by : Person → Option Task → Due
-called_by p None = Err refused.BadBody
-called_by p (Some task) = call_for p task
+abbrev pub called_by : Person → Option (List ℕ) → Option Task → Due
+called_by p tag None = Err refused.BadBody
+called_by p tag (Some task) = call_for p tag task
 
--- a person's command with a body, by the request's fields
-abbrev pub of_command : Person → List ℕ → Result KeyedAsked AskedFault → Due
-of_command p body (Err fault) = Err (refused_by_fields fault)
-of_command p body (Ok keyed) = called_by p (task_of keyed.key keyed.asked body)
+-- the same, by the request's tag
+abbrev pub tagged_body : Person → Result (Option (List ℕ)) AskedFault → Option Task → Due
+tagged_body p (Err fault) task = Err (refused_by_fields fault)
+tagged_body p (Ok tag) task = called_by p tag task
+
+-- a person's command with a body, by the request's other fields and its tag
+abbrev pub of_command : Person → List ℕ → Result (Option (List ℕ)) AskedFault → Result KeyedAsked AskedFault → Due
+of_command p body tag (Err fault) = Err (refused_by_fields fault)
+of_command p body tag (Ok keyed) = tagged_body p tag (task_of keyed.key keyed.asked body)
 
 -- the same, where the body may be cut short
-abbrev pub with_body : Person → Result KeyedAsked AskedFault → Option (List ℕ) → Due
-with_body p asked None = Err refused.BadHead
-with_body p asked (Some body) = of_command p body asked
+abbrev pub with_body : Person → Result KeyedAsked AskedFault → Result (Option (List ℕ)) AskedFault → Option (List ℕ) → Due
+with_body p asked tag None = Err refused.BadHead
+with_body p asked tag (Some body) = of_command p body tag asked
 
 -- a person's request at a route; `rest` follows the head
 abbrev pub of_route : Person → Want → List ℕ → Route → Due
 of_route p w rest (Get r) = of_read p (read_at r w)
-of_route p w rest (Post (Image r)) = with_image p (image_at r w) (body_in w.size rest)
-of_route p w rest (Post (Command r)) = with_body p (keyed_at r w) (body_in w.size rest)
+of_route p w rest (Post (Image r)) = with_image p (image_at r w) (tag_at (Image r) w) (body_in w.size rest)
+of_route p w rest (Post (Command r)) = with_body p (keyed_at r w) (tag_at (Command r) w) (body_in w.size rest)
 
 -- the request of a caller, who may be unknown
 abbrev pub of_caller : Want → List ℕ → Option Person → Due
@@ -88,7 +99,7 @@ of_head cs rest (Err fault) = Err (refused_by_head fault)
 of_head cs rest (Ok w) = of_caller w rest (caller_of cs w.token)
 
 -- the request of a head and the bytes after it: the head's own checks come first, then the caller,
--- the length of the body, the fields, and the body
+-- the length of the body, the fields, of which If-Match is the last, and the body
 abbrev pub due_of : History → RequestHead → List ℕ → Due
 due_of cs h rest = of_head cs rest (wanted_of (parts_of h))
 

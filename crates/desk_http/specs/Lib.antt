@@ -2,6 +2,7 @@ pub mod Asked
 pub mod Bodies
 pub mod Each
 pub mod Intakes
+pub mod Matching
 pub mod Refused
 pub mod Responses
 pub mod Sending

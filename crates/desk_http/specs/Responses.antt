@@ -6,6 +6,7 @@ use Rattle.serde_json.specs.Written.{compact_text}
 use Rattle.desk_exports.specs.declared.shown.Shown.{Shown}
 use Rattle.desk_exports.specs.declared.shown.Shown.TheVariants as shown
 use Rattle.desk_texts.specs.declared.shown.ShownRequest.{ShownRequest}
+use Rattle.http_responses.specs.json.Changes.{changes_data}
 use Rattle.http_responses.specs.json.Facts.{facts_data}
 use Rattle.http_responses.specs.json.Impacts.{impact_data}
 use Rattle.http_responses.specs.json.People.{people_data, person_data}
@@ -13,6 +14,7 @@ use Rattle.http_responses.specs.json.Proposals.{proposals_data}
 use Rattle.http_responses.specs.json.Replies.{reply_data}
 use Rattle.http_responses.specs.json.Requests.{request_data, requests_data}
 use Rattle.http_responses.specs.json.Verdicts.{verdict_data}
+use Rattle.http_responses.specs.json.Waiting.{waiting_data}
 use Rattle.http_responses.specs.json.WholeProposals.{whole_proposal_data}
 use Rattle.http_responses.specs.Refusals as refusals
 use Rattle.http_responses.specs.Responses.{response_text}
@@ -43,6 +45,8 @@ content_shown (shown.Request request) = content.Json
 content_shown (shown.Proposals proposals) = content.Json
 content_shown (shown.Proposal row) = content.Json
 content_shown (shown.Impact number impact) = content.Json
+content_shown (shown.Waiting requests proposals) = content.Json
+content_shown (shown.Changes changes) = content.Json
 content_shown (shown.Dbx bytes) = content.Bytes
 content_shown (shown.Db bytes) = content.Bytes
 content_shown (shown.Level text) = content.Text
@@ -77,6 +81,8 @@ body_shown (shown.Request request) = compact_text (request_data request)
 body_shown (shown.Proposals proposals) = compact_text (proposals_data proposals)
 body_shown (shown.Proposal row) = compact_text (whole_proposal_data row)
 body_shown (shown.Impact number impact) = compact_text (impact_data number impact)
+body_shown (shown.Waiting requests proposals) = compact_text (waiting_data requests proposals)
+body_shown (shown.Changes changes) = compact_text (changes_data changes)
 body_shown (shown.Dbx bytes) = bytes
 body_shown (shown.Db bytes) = bytes
 body_shown (shown.Level text) = text

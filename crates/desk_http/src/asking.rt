@@ -1,7 +1,9 @@
 //! A person's requests: reads, and commands and images with their bodies.
 ghost use Rattle.std.specs.Prelude.{◌≡◌, ◌≢◌, Err, IfErr, IfOk, IfSome, MatchResult};
 ghost use Rattle.http_requests.specs.Asked as asks;
+ghost use Rattle.http_requests.specs.Tags.{tag_at};
 ghost use Rattle.http_requests.specs.Wanted.{shown};
+ghost use Rattle.http_requests.specs.declared.route.PostRoute.TheVariants.{Command, Image};
 ghost use Rattle.desk_http.specs.Asked as spec;
 ghost use Rattle.desk_http.specs.Bodies.{body_in};
 ghost use Rattle.desk_http.specs.Intakes.{IsCaused};
@@ -16,7 +18,7 @@ use desk_calls::{Call, Task};
 use desk_texts::Person;
 use http_requests::{
     AskedFault, BodyFault, CommandRoute, GetRoute, ImageRoute, PostRoute, ReadAsked, Route, Wanted,
-    command_asked, image_asked, read_asked,
+    command_asked, image_asked, read_asked, tag_asked,
 };
 use http_responses::{Outage, Refused};
 use std::alloc::Global;
@@ -49,10 +51,12 @@ fn ask_to_read(person: Person, route: GetRoute, wanted: &Wanted<'_>) -> Result<D
     match read_asked(route, wanted) {
         Ok(ReadAsked::Desk(reading)) => Ok(Ok(Call {
             person,
+            tag: None,
             task: Task::Read(reading),
         })),
         Ok(ReadAsked::Me) => Ok(Ok(Call {
             person,
+            tag: None,
             task: Task::Me,
         })),
         Err(fault) => refuse(fault),
@@ -70,16 +74,21 @@ fn ask_with_image<R: Read>(
 ) -> Result<Due, Unread>
     ensures asked { IfOk result (λ due. IfSome (R.remaining reader.old) (λ rest.
         due ≡ spec.with_image person (asks.image_at route (shown wanted.now))
-        (body_in wanted.now.size rest))) }
+        (tag_at (Image route) (shown wanted.now)) (body_in wanted.now.size rest))) }
     ensures named { IfErr result IsOwn }
     ensures cause { IsCaused intake.old intake.new result }
 {
     let Some(image) = intake.read_image(alloc, reader, wanted.size)? else {
         return Ok(Err(Refused::BadHead));
     };
-    match image_asked(alloc, route, wanted) {
-        Ok(asked) => Ok(Ok(Call {
+    let asked = match image_asked(alloc, route, wanted) {
+        Ok(asked) => asked,
+        Err(fault) => return refuse(fault),
+    };
+    match tag_asked(PostRoute::Image(route), wanted) {
+        Ok(tag) => Ok(Ok(Call {
             person,
+            tag,
             task: Task::Image(asked, image),
         })),
         Err(fault) => refuse(fault),
@@ -97,7 +106,7 @@ fn ask_with_body<R: Read>(
 ) -> Result<Due, Unread>
     ensures asked { IfOk result (λ due. IfSome (R.remaining reader.old) (λ rest.
         due ≡ spec.with_body person (asks.keyed_at route (shown wanted.now))
-        (body_in wanted.now.size rest))) }
+        (tag_at (Command route) (shown wanted.now)) (body_in wanted.now.size rest))) }
     ensures named { IfErr result IsOwn }
     ensures cause { IsCaused intake.old intake.new result }
 {
@@ -108,8 +117,12 @@ fn ask_with_body<R: Read>(
         Ok(keyed) => keyed,
         Err(fault) => return refuse(fault),
     };
+    let tag = match tag_asked(PostRoute::Command(route), wanted) {
+        Ok(tag) => tag,
+        Err(fault) => return refuse(fault),
+    };
     match task_with_body(alloc, keyed.key, keyed.asked, body) {
-        Ok(task) => Ok(Ok(Call { person, task })),
+        Ok(task) => Ok(Ok(Call { person, tag, task })),
         Err(BodyFault::BadBody) => Ok(Err(Refused::BadBody)),
         Err(BodyFault::NoMemory) => Err(Unread::Outage(Outage::NoMemory)),
     }

@@ -3,6 +3,7 @@ ghost use Rattle.std.specs.Prelude.{◌≡◌, ◌++◌, ℕ, List};
 ghost use Rattle.httparse.specs.Grammar.{RequestHead};
 ghost use Rattle.desk_history.specs.Calls.{History};
 ghost use Rattle.desk_http.specs.Asked.{Asks, Due, HasRequest};
+ghost use Rattle.desk_http.specs.Matching.{MatchedInputsAreAboutTheirTag};
 
 /// At a history an input is one call, or has one refusal, at most.
 pub fn one_thing_is_asked()
@@ -14,4 +15,9 @@ pub fn one_thing_is_asked()
 pub fn what_follows_changes_nothing()
     ensures { (cs : History) (b : List ℕ) (h : RequestHead) (rest more : List ℕ) (due : Due)
         → HasRequest b h rest → Asks cs b due → Asks cs (b ++ more) due }
+{}
+
+/// An input with a tag whose answer changes the history is about what has that tag.
+pub fn matched_inputs_are_about_their_tag()
+    ensures { MatchedInputsAreAboutTheirTag }
 {}

@@ -12,7 +12,9 @@ mod serving_each;
 mod tasks;
 
 pub use intake::Intake;
-pub use laws::{one_thing_is_asked, what_follows_changes_nothing};
+pub use laws::{
+    matched_inputs_are_about_their_tag, one_thing_is_asked, what_follows_changes_nothing,
+};
 pub use served::{Answered, HttpFault, Said, Served};
 pub use serving::serve_one;
 pub use serving_each::serve_each;

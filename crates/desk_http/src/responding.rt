@@ -14,9 +14,9 @@ use desk_bytes::put;
 use desk_calls::Answer;
 use desk_exports::Shown;
 use http_responses::{
-    Content, Outage, RequestsText, Status, facts_json, impact_json, outage_response, people_json,
-    person_json, proposal_json, proposals_json, refused_response, reply_json, request_json,
-    response, verdict_json,
+    Content, Outage, RequestsText, Status, changes_json, facts_json, impact_json, outage_response,
+    people_json, person_json, proposal_json, proposals_json, refused_response, reply_json,
+    request_json, response, verdict_json, waiting_json,
 };
 use std::alloc::{AllocError, Global};
 use std::io::Write;
@@ -46,6 +46,13 @@ fn response_with(alloc: Global, shown: Shown<RequestsText>) -> Result<Vec<u8>, A
         Shown::Impact(number, impact) => {
             json_response(alloc, Some(impact_json(alloc, number, &impact)?))
         }
+        Shown::Waiting(requests, proposals) => {
+            json_response(
+                alloc,
+                Some(waiting_json(alloc, requests, proposals.as_slice())?),
+            )
+        }
+        Shown::Changes(changes) => json_response(alloc, Some(changes_json(alloc, changes)?)),
         Shown::Dbx(bytes) => response(alloc, Status::Ok, Content::Bytes, bytes.into_vec()),
         Shown::Db(bytes) => response(alloc, Status::Ok, Content::Bytes, bytes.into_vec()),
         Shown::Level(text) => response(alloc, Status::Ok, Content::Text, text.into_vec()),

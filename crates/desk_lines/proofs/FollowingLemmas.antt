@@ -33,7 +33,7 @@ use Rattle.desk_minutes.proofs.LineLemmas.{line_same}
 use Rattle.desk_minutes.proofs.TextLemmas.{told_newest}
 use Rattle.store_reads.specs.Failures.{IsFailure}
 use Rattle.desk_lines.specs.Faults.{IsDeskFailure}
-use Rattle.desk_lines.specs.Following.{GoesOn, HasNoneBy}
+use Rattle.desk_lines.specs.Following.{GoesOn, GoesOnAs, HasNoneAs, HasNoneBy}
 
 -- ---- calls that are accepted
 
@@ -84,6 +84,16 @@ module _ (cs : History) (line : List ℕ) (n : ℕ) (c : Call) (r : Reply) (h : 
       let one = same_read (under rules d) formed may same in
       none (ap (λ e. joins cs (under rules e)) one.0 ∙ may) (ap (λ e. reply_to cs (under rules e)) one.0 ∙ sym one.1)
 
+-- the same whatever the number
+module _ (cs : History) (line : List ℕ) (n : ℕ) (h : IsHistory cs) where
+  pub none_read_as : ((c : Call) (r : Reply) → IsTold c r → line ≡ line_with n c r → ⊥) → HasNoneAs n cs line
+  none_read_as none d formed may same = none d (reply_to cs (item d)) (told cs (item d) h formed may) same
+
+  pub none_as : (c : Call) (r : Reply) → n < 2 ^ 64 → IsTold c r → line ≡ line_with n c r → (joins cs (item c) ≡ true → reply_to cs (item c) ≡ r → ⊥) → HasNoneAs n cs line
+  none_as c r small read spelt none d formed may same =
+      let one = line_same n c d r (reply_to cs (item d)) small read (told cs (item d) h formed may) (sym spelt ∙ same) in
+      none (ap (λ e. joins cs (item e)) one.0 ∙ may) (ap (λ e. reply_to cs (item e)) one.0 ∙ sym one.1)
+
 -- the first rules accept nothing after a call by the second
 pub none_past : (cs : History) (line : List ℕ) → list_all is_first cs ≡ false → HasNoneBy Second cs line → HasNoNext cs line
 none_past cs line past none i formed may same = by i.call i.rules formed may same
@@ -108,6 +118,10 @@ not_accepted a m h e = let yes_it_is = (both (is_accepted a) m e).0 in absurd (c
 pub read_is : (cs : History) (line : List ℕ) (n : ℕ) (i : Item) (r : Reply) → n ≡ length cs + 1 → line ≡ line_with n i.call r → ruling cs i ≡ Accepted r
     → line ≡ minute_line (minute_of cs i)
 read_is cs line n i r is spelt accepted = spelt ∙ ap (line_with n i.call) (sym (accepted_reply cs i r accepted)) ∙ sym (line_numbered cs n i is)
+
+pub spelt_as : (cs : History) (line : List ℕ) (n : ℕ) (i : Item) (r : Reply) → line ≡ line_with n i.call r → ruling cs i ≡ Accepted r
+    → line ≡ line_with n i.call (reply_to cs i)
+spelt_as cs line n i r spelt accepted = spelt ∙ ap (line_with n i.call) (sym (accepted_reply cs i r accepted))
 
 pub may_join : (cs : History) (i : Item) (r : Reply) → ruling cs i ≡ Accepted r → may_follow cs i ≡ true → joins cs i ≡ true
 may_join cs i r h e = joined (is_accepted (ruling cs i)) (may_follow cs i) (ap is_accepted h) e
@@ -153,6 +167,17 @@ either P cs c r line accepted formed is later (inr next) p = inr (record {
   formed = formed;
   accepted = may_join cs (item c) r accepted refl;
   is = is;
+  shows = subst P (next ∙ accepted_next cs c r accepted) p;
+})
+
+pub either_as : (P : History → Type 0) (cs : History) (c : Call) (r : Reply) (line : List ℕ) (n : ℕ) → answer cs c ≡ Accepted r → IsCall c → line ≡ line_with n c r
+    → (later : History) → IsLeft cs c later → P later → P cs ⊎ GoesOnAs n P cs line
+either_as P cs c r line n accepted formed spelt later (inl same) p = inl (subst P same p)
+either_as P cs c r line n accepted formed spelt later (inr next) p = inr (record {
+  call = c;
+  formed = formed;
+  accepted = may_join cs (item c) r accepted refl;
+  is = spelt_as cs line n (item c) r spelt accepted;
   shows = subst P (next ∙ accepted_next cs c r accepted) p;
 })
 

@@ -7,7 +7,8 @@ ghost use Rattle.desk_texts.specs.declared.reply.Reply.{Reply};
 ghost use Rattle.desk_minutes.specs.Lines.{IsTold, line_with};
 ghost use Rattle.desk_lines.specs.Faults.{IsFollowFault};
 ghost use Rattle.desk_store.specs.Desks.{KeepsDesk};
-ghost use Rattle.desk_lines.specs.Following.{EndsBefore, GoesOnWith, MayStopOnLine};
+ghost use Rattle.desk_lines.specs.Following.{EndsBefore, EndsNumbered, GoesOnNumbered, GoesOnWith};
+ghost use Rattle.desk_lines.specs.Following.{MayStopNumbered, MayStopOnLine};
 
 use crate::applying::reply_due;
 use desk_bytes::Refusal;
@@ -57,7 +58,8 @@ fn is_due(given: Option<Reply>, told: &Reply) -> bool
 
 /// Follows a line of minutes, with its line break, as the line of this number: its call is accepted
 /// by the second rules and joins the desk's history, and number, caller, key, text and reply of the
-/// line are what these rules give. Takes memory for the call.
+/// line are what these rules give, if the number is that of the next call: it isn't compared with
+/// the desk's. Takes memory for the call.
 ///
 /// `Line`: it is the line of no call that they accept next, and the desk shows the same history.
 /// `Device`: memory was refused (`NoMemory`), or the store failed (`Store`), or had failed before
@@ -75,6 +77,14 @@ pub fn follow<S: Alter + Drop>(
         → IsErrOf result FollowFault.Line → EndsBefore S.Store desk.old number line.now
         × KeepsDesk S.Store desk.old desk.new }
     ensures stopped { MayStopOnLine S.Store desk.old desk.new number line.now }
+
+    // The same whatever the number.
+    ensures goes_on { HasCleanDisk (state S.Store desk.new.conn)
+        → OnOk result (GoesOnNumbered S.Store desk.old desk.new number line.now) }
+    ensures ends { HasCleanDisk (state S.Store desk.new.conn)
+        → IsErrOf result FollowFault.Line → EndsNumbered S.Store desk.old number line.now }
+    ensures leaves { MayStopNumbered S.Store desk.old desk.new number line.now }
+
     ensures clean { HasCleanDisk (state S.Store desk.new.conn)
         → HasCleanDisk (state S.Store desk.old.conn) }
     ensures named { IfErr result IsFollowFault }

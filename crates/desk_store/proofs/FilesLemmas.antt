@@ -1,5 +1,5 @@
 -- Files after a stop, and after an opening that failed.
-use Rattle.std.proofs.Common.{◌≡◌, ◌≤◌, inl, inr, ℕ, false, List, sym, subst, ◌∙◌, arith, IsTrue}
+use Rattle.std.proofs.Common.{◌≡◌, ◌≤◌, inl, inr, ℕ, false, true, refl, List, sym, subst, ◌∙◌, arith, IsTrue}
 use Rattle.std.proofs.Math.Logic.{∥∥₁_map}
 use Rattle.std.proofs.lemmas.Bool.{cases_Bool, cases_eq}
 use Rattle.sqlite.specs.Closing.{files_left}
@@ -21,7 +21,7 @@ use Rattle.sqlite_wal.specs.Recovery as raw
 use Rattle.sqlite_wal.specs.Recovery.{Image, IsIgnored, Pages}
 use Rattle.desk_history.specs.Lives.{Life}
 use Rattle.desk_store.specs.Headline.{HoldsLives, Seen}
-use Rattle.desk_store.specs.Remains.{IfRefused, IfUnopened, has_store}
+use Rattle.desk_store.specs.Remains.{HadStore, IfRefused, IfUnchecked, IfUnopened, has_store}
 use Rattle.desk_store.specs.Reopening.{FilesHold, FilesOutlast, HasNoSums, ImageHolds, IsAfterStop}
 use Rattle.desk_store.specs.declared.remains.Remains.{Remains}
 use Rattle.desk_store.specs.declared.remains.Remains.TheVariants.{Refused, Unchecked, Unopened}
@@ -35,6 +35,18 @@ pub IfUnopened-weaker : {D : Type 0} (left : Remains D) (P Q : Files D → Type 
 IfUnopened-weaker (Refused files) P Q so h = tt
 IfUnopened-weaker (Unopened files) P Q so h = so files h
 IfUnopened-weaker (Unchecked files) P Q so h = tt
+
+pub IfUnchecked-weaker : {D : Type 0} (left : Remains D) (P Q : Files D → Type 0) → ((files : Files D) → P files → Q files) → IfUnchecked left P → IfUnchecked left Q
+IfUnchecked-weaker (Refused files) P Q so h = tt
+IfUnchecked-weaker (Unopened files) P Q so h = tt
+IfUnchecked-weaker (Unchecked files) P Q so h = so files h
+
+-- the files of a store, after a stop
+pub had_store : {D : Type 0} (g : Ghosts D) (left : Leftover D g) → has_store left ≡ true → (given : Files D) → (given.log, given.db) ≡ files_left left
+    → (now : Files D) → IsAfterStop g given now → HadStore g left now
+had_store g (leftover.Files it) stored given same now stop = absurd (cc)
+had_store g (leftover.Unopened it) stored given same now stop = absurd (cc)
+had_store g (leftover.Store it) stored given same now stop = record { store = it; is = refl; given = given; same = same; stopped = stop }
 
 module _ {D : Type 0} (g : Ghosts D) (owner : List ℕ) (lives : List Life) (seen : Seen) where
   -- a connection over files that are such a database finds its tables

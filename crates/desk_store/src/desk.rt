@@ -73,6 +73,7 @@ impl<S: Alter + Drop> Desk<S> {
             → ShowsDesk S.Store desk owner.now []) }
         ensures beside { IfOk result (λ desk. HasCleanDisk (state S.Store desk.conn)
             → HasFoundedBeside (state S.Store conn) (state S.Store desk.conn) owner.now) }
+        ensures own { IfOk result (λ desk. desk.owner ≡ owner.now) }
         ensures usable { IfOk result (λ desk. desk.needs_reopening ≡ false) }
         ensures free { OnOk result
             (takes_a_desk_name (state S.Store conn).now.schema ≡ false) }

@@ -12,8 +12,9 @@ use desk_texts::{Caller, Person};
 use sqlite::Alter;
 
 impl<S: Alter + Drop> Desk<S> {
-    /// What the person is shown, each by the call of its name: `requests_of`, `request`,
-    /// `proposals`, `proposal`, `impact`, `export` into memory, `report`, `minutes_from`, `people`.
+    /// What the person is shown, each by the call of its name: `requests_of`, `requests_from`,
+    /// `request`, `proposals`, `proposals_from`, `proposal`, `impact`, `waiting`, `changes`, `export`
+    /// into memory, `report`, `minutes_from`, `people`.
     /// Requests are collected into an `L`. The report is for officers: anybody else gets
     /// `NotYourRole`, even from a desk that has to be opened again. Nothing is changed. Takes
     /// memory for what is shown.
@@ -41,10 +42,14 @@ impl<S: Alter + Drop> Desk<S> {
         let caller = Caller::Person(name);
         match reading {
             Reading::Requests => self.show_requests(&caller),
+            Reading::RequestsFrom(number) => self.show_requests_from(&caller, number),
             Reading::Request(number) => self.show_request(&caller, number),
             Reading::Proposals => self.show_proposals(&caller),
+            Reading::ProposalsFrom(number) => self.show_proposals_from(&caller, number),
             Reading::Proposal(number) => self.show_proposal(&caller, number),
             Reading::Impact(number) => self.show_impact(&caller, number),
+            Reading::Waiting => self.show_waiting(&caller),
+            Reading::Changes => self.show_changes(&caller),
             Reading::Dbx => self.show_export(Export::Dbx),
             Reading::Db => self.show_export(Export::Db),
             Reading::Level => self.show_export(Export::Level),

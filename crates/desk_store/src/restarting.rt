@@ -8,7 +8,8 @@ ghost use Rattle.desk_history.specs.Formed.{IsItem};
 ghost use Rattle.desk_history.specs.Lives.{Life, events_of};
 ghost use Rattle.desk_store.specs.Living.{and_refused};
 ghost use Rattle.desk_store.specs.Headline.{IsRecovered, LeavesLives, Seen};
-ghost use Rattle.desk_store.specs.Remains.{IfRefused, IfUnopened, IsRefused, files_in, has_store};
+ghost use Rattle.desk_store.specs.Remains.{HadStore, HadStoreOver, IfRefused, IfUnchecked};
+ghost use Rattle.desk_store.specs.Remains.{IfUnopened, IsRefused, files_in, has_store};
 ghost use Rattle.desk_store.specs.Reopening.{FilesHold, FilesOutlast, FoundAgain, HasNoSums, HoldOn};
 ghost use Rattle.desk_store.specs.Reopening.{IsAfterStop};
 ghost use Rattle.desk_store.specs.Steps.{IsReadRefusal};
@@ -59,6 +60,7 @@ fn unopened<D: Crash + Drop>(left: Leftover<D>) -> Remains<D>
     ensures db { IsTrue (D.Disk.is_usable (files_in result).db) }
     ensures unopened { IfUnopened result (λ now. (files : Files D)
         → (IsCleanLeft left → LeavesFiles files left) → HoldOn D.Disk files now) }
+    ensures unchecked { IfUnchecked result (HadStore D.Disk left) }
     ensures unrefused { IfRefused result (λ _. ⊥) }
 {
     let has_store = has_store(&left);
@@ -97,6 +99,7 @@ pub fn reopen<D: Crash + Drop>(
         → (owner : List ℕ) (lives : List Life) (seen : Seen)
         → FilesOutlast D.Disk files owner lives seen
         → FilesOutlast D.Disk left owner (and_refused lives) seen)) }
+    ensures unchecked { IfErr result (λ e. IfUnchecked e.1 (HadStoreOver D.Disk files)) }
     ensures log { IfErr result (λ e. IsTrue (D.Disk.is_usable (files_in e.1).log)) }
     ensures db { IfErr result (λ e. IsTrue (D.Disk.is_usable (files_in e.1).db)) }
     ensures named { IfErr result (λ e. (e.0 ≡ Refusal.Version) ⊎ IsReadRefusal e.0) }
@@ -148,6 +151,8 @@ pub fn restart<D: Crash + Drop>(
         (owner : List ℕ) (lives : List Life) (seen : Seen)
         → LeavesLives (file_state desk.conn) owner lives seen
         → FilesOutlast D.Disk left owner (and_refused lives) seen)) }
+    ensures unchecked { IfErr result (λ e. IfUnchecked e.1 (λ left. (files : Files D)
+        × FoundAgain D.Disk desk.conn files × HadStoreOver D.Disk files left)) }
     ensures log { IfErr result (λ e. IsTrue (D.Disk.is_usable (files_in e.1).log)) }
     ensures db { IfErr result (λ e. IsTrue (D.Disk.is_usable (files_in e.1).db)) }
     ensures named { IfErr result (λ e. (e.0 ≡ Refusal.Version) ⊎ IsReadRefusal e.0) }

@@ -67,7 +67,9 @@ fn raise(alloc: Global, raise: &Raise) -> Result<String, AllocError>
     format!(in alloc; "raise {name} {generation} {stamp}")
 }
 
-fn import(alloc: Global, import: &Import) -> Result<String, AllocError>
+/// The canonical text of the command that imports this. Takes memory for the text; the time is
+/// linear in its length.
+pub fn import_text(alloc: Global, import: &Import) -> Result<String, AllocError>
     ensures { IfOk result (λ text. string_bytes text ≡ text_of (ImportRevocations import.now)) }
 {
     let stamp = stamp_text(alloc, import.stamp())?;
@@ -98,7 +100,7 @@ pub fn command_text(alloc: Global, command: &Command) -> Result<String, AllocErr
         Command::RevokeDigest(digest) => format!(in alloc; "revoke-digest {digest}"),
         Command::RevokeCertificate(digest) => format!(in alloc; "revoke-certificate {digest}"),
         Command::RaiseLevel(level) => raise(alloc, level),
-        Command::ImportRevocations(entries) => import(alloc, entries),
+        Command::ImportRevocations(entries) => import_text(alloc, entries),
         Command::Confirm(proposal) => {
             let proposal = proposal.value();
             format!(in alloc; "confirm {proposal}")

@@ -43,7 +43,7 @@ pub use caller::Caller;
 pub use carried::Carried;
 pub use certificate::{Certificate, LONGEST_CERTIFICATE};
 pub use command::{Ballot, Call, Command, Listing, Person, Raise, ReturnedFile, Submission};
-pub use command_texts::command_text;
+pub use command_texts::{command_text, import_text};
 pub use digests::Digests;
 pub use facts::Facts;
 pub use fault::TextFault;

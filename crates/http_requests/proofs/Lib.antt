@@ -4,4 +4,5 @@ pub mod BodyLemmas
 pub mod EmptyLineLemmas
 pub mod NumberLemmas
 pub mod RouteLemmas
+pub mod TagLemmas
 mod FillingLemmas

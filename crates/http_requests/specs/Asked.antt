@@ -72,11 +72,12 @@ abbrev pub numbered : {A : Type 0} → Option ℕ → (ℕ → A) → Result A A
 numbered None ask = Err NoSuchRequest
 numbered (Some number) ask = Ok (ask number)
 
--- the number of a minute in the place of {no}: 1 to 7 digits without a leading zero
+-- the number of a minute, or of the first entry of a part of a list, in the place of {no}: 1 to 7
+-- digits without a leading zero
 abbrev pub minute_in : Want → Option ℕ
 minute_in w = minute_number w.number
 
--- the request with the number of a minute
+-- the request with such a number
 abbrev pub from_minute : Option ℕ → (ℕ → ReadAsked) → Result ReadAsked AskedFault
 from_minute None ask = Err NoRoute
 from_minute (Some number) ask = Ok (ask number)
@@ -90,9 +91,13 @@ of_proposal (Some number) ask = Ok (ask number)
 abbrev pub read_at : GetRoute → Want → Result ReadAsked AskedFault
 read_at get.Requests w = Ok (Desk read.Requests)
 read_at get.Request w = numbered (number_in w) (λ number. Desk (read.Request number))
+read_at get.RequestsFrom w = from_minute (minute_in w) (λ number. Desk (read.RequestsFrom number))
 read_at get.Proposals w = Ok (Desk read.Proposals)
 read_at get.Proposal w = of_proposal (number_in w) (λ number. Desk (read.Proposal number))
 read_at get.Impact w = of_proposal (number_in w) (λ number. Desk (read.Impact number))
+read_at get.ProposalsFrom w = from_minute (minute_in w) (λ number. Desk (read.ProposalsFrom number))
+read_at get.Waiting w = Ok (Desk read.Waiting)
+read_at get.Changes w = Ok (Desk read.Changes)
 read_at get.Dbx w = Ok (Desk read.Dbx)
 read_at get.Db w = Ok (Desk read.Db)
 read_at get.Level w = Ok (Desk read.Level)

@@ -3,6 +3,7 @@ pub mod Fields
 pub mod Lengths
 pub mod Paths
 pub mod Routes
+pub mod Tags
 pub mod Targets
 pub mod Wanted
 pub mod Asked

@@ -1,12 +1,13 @@
 -- own: the paths of the desk, as a router of `matchit` keeps them.
-use Rattle.std.specs.Prelude.{ℕ, List, [], codes, Option, Some, option_map, option_and_then, Result, Ok, Err}
+use Rattle.std.specs.Prelude.{ℕ, List, [], if◌then◌else◌, codes, Option, Some, option_map, option_and_then, Result, Ok, Err}
 use Rattle.matchit.specs.Rows.{RowsOf}
 use Rattle.matchit.specs.Route.{Scan, parse_route}
 use Rattle.matchit.specs.Order.{placed}
 use Rattle.matchit.specs.Seek.{first}
 use Rattle.matchit.specs.Router.{RouteOf, route_from}
 use Rattle.matchit.specs.declared.error.InsertError.{InsertError}
-use Rattle.http_requests.specs.Targets.{minute_number, number_part}
+use Rattle.http_requests.specs.Routes.{is_from, part_read}
+use Rattle.http_requests.specs.Targets.{minute_number}
 use Rattle.http_requests.specs.declared.resource.Resource.{Resource}
 use Rattle.http_requests.specs.declared.resource.Resource.TheVariants.{Get, Post, GetAndPost}
 use Rattle.http_requests.specs.declared.route.GetRoute.{GetRoute}
@@ -93,18 +94,32 @@ with_records rows =
     (added (codes "/people") (get read.People)
     (added (codes "/minutes/{no}") (get read.Minutes) rows))
 
+-- the rows and the paths of parts of lists, of what waits and of the number of changes
+unfoldable pub with_parts : Table → Table
+with_parts rows =
+    added (codes "/changes") (get read.Changes)
+    (added (codes "/waiting") (get read.Waiting)
+    (added (codes "/proposals/from/{no}") (get read.ProposalsFrom)
+    (added (codes "/requests/from/{no}") (get read.RequestsFrom) rows)))
+
 -- the table
 unfoldable pub table : Table
-table = with_records (with_rest (with_lists (with_proposals (with_images (with_requests [])))))
+table = with_parts (with_records (with_rest (with_lists (with_proposals (with_images (with_requests []))))))
 
 -- the resource at a target in the table, by the definition of `matchit`
 unfoldable pub listed_at : List ℕ → Option Resource
 listed_at target = option_map (λ route. route.value) (first table target)
 
--- a resource at a target; the minutes only from a number on
+-- a route of GET at a target, which has a number if the route reads from one on
+abbrev pub read_with_number : List ℕ → GetRoute → Option Resource
+read_with_number target route =
+    if is_from route
+    then option_map (λ number. get route) (minute_number (part_read route target))
+    else Some (get route)
+
+-- a resource at a target; the minutes and parts of lists only from a number on
 abbrev pub with_number : List ℕ → Resource → Option Resource
-with_number target (Get read.Minutes) =
-    option_map (λ number. get read.Minutes) (minute_number (number_part target))
+with_number target (Get route) = read_with_number target route
 with_number target resource = Some resource
 
 -- the resource at a request's target

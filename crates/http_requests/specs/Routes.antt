@@ -1,12 +1,15 @@
 -- own: the route of each method of a path.
-use Rattle.std.specs.Prelude.{ℕ, List, codes, bytes_eq, if◌then◌else◌, Option, Some, None}
+use Rattle.std.specs.Prelude.{ℕ, List, Bool, true, false, codes, bytes_eq, if◌then◌else◌, Option, Some, None}
 use Rattle.desk_bytes.specs.Limits.{longest_image}
+use Rattle.http_requests.specs.Targets.{from_part, number_part}
 use Rattle.http_requests.specs.declared.resource.Resource.{Resource}
 use Rattle.http_requests.specs.declared.resource.Resource.TheVariants as resource
 use Rattle.http_requests.specs.declared.resource.Methods.{Methods}
 use Rattle.http_requests.specs.declared.resource.Methods.TheVariants as methods
 use Rattle.http_requests.specs.declared.route.Route.{Route}
 use Rattle.http_requests.specs.declared.route.Route.TheVariants as route
+use Rattle.http_requests.specs.declared.route.GetRoute.{GetRoute}
+use Rattle.http_requests.specs.declared.route.GetRoute.TheVariants as read
 use Rattle.http_requests.specs.declared.route.PostRoute.{PostRoute}
 use Rattle.http_requests.specs.declared.route.PostRoute.TheVariants as posts
 
@@ -44,3 +47,21 @@ methods_text methods.GetAndPost = codes "GET, POST"
 abbrev pub limit_of : PostRoute → ℕ
 limit_of (posts.Image r) = longest_image
 limit_of (posts.Command r) = 4194304
+
+-- own: whether a route of GET reads from a number on
+abbrev pub is_from : GetRoute → Bool
+is_from read.RequestsFrom = true
+is_from read.ProposalsFrom = true
+is_from read.Minutes = true
+is_from _ = false
+
+-- the part of a target that {no} stands for where the path of this route of GET has it
+abbrev pub part_read : GetRoute → List ℕ → List ℕ
+part_read read.RequestsFrom target = from_part target
+part_read read.ProposalsFrom target = from_part target
+part_read _ target = number_part target
+
+-- the part of a target that {no} stands for where the route's path has it
+abbrev pub part_of : Route → List ℕ → List ℕ
+part_of (route.Get r) target = part_read r target
+part_of (route.Post r) target = number_part target

@@ -1,10 +1,9 @@
 -- own: the request of a head, or the first of the checks on it that fails.
 use Rattle.std.specs.Prelude.{◌≡◌, ℕ, List, Option, Some, None, Result, Ok, Err, nat_le, ◌==◌, if◌then◌else◌}
-use Rattle.http_requests.specs.heads.Fields.{Parts}
+use Rattle.http_requests.specs.heads.Fields.{Occurrence, Parts, occurrence}
 use Rattle.http_requests.specs.Fields.{Values, fields_of, bytes_of}
 use Rattle.http_requests.specs.Paths.{resource_of}
-use Rattle.http_requests.specs.Routes.{route_of, methods_of, limit_of}
-use Rattle.http_requests.specs.Targets.{number_part}
+use Rattle.http_requests.specs.Routes.{route_of, methods_of, limit_of, part_of}
 use Rattle.http_requests.specs.declared.resource.Resource.{Resource}
 use Rattle.http_requests.specs.declared.route.Route.{Route}
 use Rattle.http_requests.specs.declared.route.Route.TheVariants.{Get, Post}
@@ -21,6 +20,7 @@ pub record Want : Type 0 where
   pub key : Option (List ℕ)
   pub title : Option (List ℕ)
   pub stamp : Option (List ℕ)
+  pub if_match : Occurrence
 
 -- the length of a route's body, for the announced one: GET has none, POST must announce one within
 -- the limit
@@ -36,11 +36,12 @@ of_size p values route (Err fault) = Err fault
 of_size p values route (Ok size) = Ok (record {
   route = route;
   size = size;
-  number = number_part p.target;
+  number = part_of route p.target;
   token = values.token;
   key = values.key;
   title = values.title;
   stamp = values.stamp;
+  if_match = p.if_match;
 })
 
 -- the request to a resource, if its method has this route
@@ -72,6 +73,7 @@ shown w = record {
   key = bytes_of w.key;
   title = bytes_of w.title;
   stamp = bytes_of w.stamp;
+  if_match = occurrence w.if_match;
 }
 
 -- the code returns this

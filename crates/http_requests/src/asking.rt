@@ -86,7 +86,7 @@ fn proposal(wanted: &Wanted<'_>) -> Result<ProposalNumber, AskedFault>
     Ok(number)
 }
 
-/// The minute's number in the place of `{no}`.
+/// The number of a minute, or of the first entry of a part of a list, in the place of `{no}`.
 fn minute(wanted: &Wanted<'_>) -> Result<u64, AskedFault>
     ensures { spec.GivesOr NoRoute (spec.minute_in (want.shown wanted.now)) result }
 {
@@ -97,17 +97,22 @@ fn minute(wanted: &Wanted<'_>) -> Result<u64, AskedFault>
 }
 
 /// The request of a GET, or NoSuchRequest if `{no}` isn't 1 to 6 digits without a leading zero, and
-/// at a path of proposals NoSuchProposal; at the path of the minutes it is 1 to 7 such digits, or
-/// NoRoute, which `check_head` gives before. To be called once the caller is known.
+/// at a path of proposals NoSuchProposal; at the paths of the minutes and of parts of lists it is 1
+/// to 7 such digits, or NoRoute, which `check_head` gives before. To be called once the caller is
+/// known.
 pub fn read_asked(route: GetRoute, wanted: &Wanted<'_>) -> Result<ReadAsked, AskedFault>
     ensures { spec.Gives (spec.read_at route (want.shown wanted.now)) result }
 {
     match route {
         GetRoute::Requests => Ok(ReadAsked::Desk(Reading::Requests)),
         GetRoute::Request => Ok(ReadAsked::Desk(Reading::Request(number(wanted)?))),
+        GetRoute::RequestsFrom => Ok(ReadAsked::Desk(Reading::RequestsFrom(minute(wanted)?))),
         GetRoute::Proposals => Ok(ReadAsked::Desk(Reading::Proposals)),
         GetRoute::Proposal => Ok(ReadAsked::Desk(Reading::Proposal(proposal(wanted)?))),
         GetRoute::Impact => Ok(ReadAsked::Desk(Reading::Impact(proposal(wanted)?))),
+        GetRoute::ProposalsFrom => Ok(ReadAsked::Desk(Reading::ProposalsFrom(minute(wanted)?))),
+        GetRoute::Waiting => Ok(ReadAsked::Desk(Reading::Waiting)),
+        GetRoute::Changes => Ok(ReadAsked::Desk(Reading::Changes)),
         GetRoute::Dbx => Ok(ReadAsked::Desk(Reading::Dbx)),
         GetRoute::Db => Ok(ReadAsked::Desk(Reading::Db)),
         GetRoute::Level => Ok(ReadAsked::Desk(Reading::Level)),

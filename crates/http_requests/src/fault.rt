@@ -25,7 +25,8 @@ pub enum WantedFault {
 /// Why a request's fields or target don't suit its route.
 #[derive(Clone, Copy, Debug, PartialEq, Eq)]
 pub enum AskedFault {
-    /// Desk-Key, Desk-Title or Desk-Stamp is missing where it is needed, or isn't in its form.
+    /// Desk-Key, Desk-Title or Desk-Stamp is missing where it is needed, or isn't in its form; or
+    /// If-Match isn't one entity tag of a digest, where a command takes a precondition.
     BadField,
     /// The part in the place of `{no}` isn't a request's number.
     NoSuchRequest,

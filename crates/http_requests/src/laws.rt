@@ -1,6 +1,8 @@
 //! Laws of the definitions that this crate's contracts cite.
-ghost use Rattle.std.specs.Prelude.{◌≡◌, None, Some, codes};
+ghost use Rattle.std.specs.Prelude.{◌≡◌, ℕ, List, None, Some, codes, length};
+ghost use Rattle.hex.specs.Hex.{IsBytes};
 ghost use Rattle.http_requests.specs.Paths.{get, post_command, post_image, resource_of};
+ghost use Rattle.http_requests.specs.Tags.{digest_in_tag, entity_tag};
 ghost use Rattle.http_requests.specs.declared.resource.Resource.TheVariants.{GetAndPost};
 ghost use Rattle.http_requests.specs.declared.route.GetRoute.TheVariants as read;
 ghost use Rattle.http_requests.specs.declared.route.PostRoute.TheVariants.{Command, Image};
@@ -71,8 +73,19 @@ pub fn paths_of_records_are_found()
     ensures me { resource_of (codes "/me") ≡ Some (get read.Me) }
 {}
 
+/// The paths of parts of lists, of what waits and of the number of changes are found; `from` alone
+/// stands in the place of a request's number.
+pub fn paths_of_parts_are_found()
+    ensures requests { resource_of (codes "/requests/from/12") ≡ Some (get read.RequestsFrom) }
+    ensures proposals { resource_of (codes "/proposals/from/1000000")
+        ≡ Some (get read.ProposalsFrom) }
+    ensures waiting { resource_of (codes "/waiting") ≡ Some (get read.Waiting) }
+    ensures changes { resource_of (codes "/changes") ≡ Some (get read.Changes) }
+    ensures no_number { resource_of (codes "/requests/from") ≡ Some (get read.Request) }
+{}
+
 /// A path isn't found with a query, with a slash at its end, or with an empty part, and none of the
-/// minutes with a part that isn't a minute's number.
+/// minutes or of a part of a list with a part that isn't such a number.
 pub fn no_other_path_is_found()
     ensures query { resource_of (codes "/level?x") ≡ None }
     ensures end { resource_of (codes "/level/") ≡ None }
@@ -80,4 +93,14 @@ pub fn no_other_path_is_found()
     ensures no_digit { resource_of (codes "/minutes/x") ≡ None }
     ensures leading_zero { resource_of (codes "/minutes/012") ≡ None }
     ensures eight_digits { resource_of (codes "/minutes/12345678") ≡ None }
+    ensures from_no_digit { resource_of (codes "/requests/from/review") ≡ None }
+    ensures from_zero { resource_of (codes "/proposals/from/0") ≡ None }
+{}
+
+/// An entity tag is read as its digest, and no other text is.
+pub fn tags_are_read_alone()
+    ensures found { (digest : List ℕ) → length digest ≡ 32 → IsBytes digest
+        → digest_in_tag (entity_tag digest) ≡ Some digest }
+    ensures only { (text digest : List ℕ) → digest_in_tag text ≡ Some digest
+        → text ≡ entity_tag digest }
 {}

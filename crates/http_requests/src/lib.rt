@@ -11,6 +11,7 @@ mod laws;
 mod resource;
 mod route;
 mod routing;
+mod tags;
 mod target;
 mod want;
 mod wanting;
@@ -24,10 +25,12 @@ pub use heads::{
 };
 pub use laws::{
     no_other_path_is_found, other_paths_are_found, paths_of_lists_are_found,
-    paths_of_proposals_are_found, paths_of_records_are_found, paths_of_requests_are_found,
+    paths_of_parts_are_found, paths_of_proposals_are_found, paths_of_records_are_found,
+    paths_of_requests_are_found, tags_are_read_alone,
 };
 pub use resource::{Methods, Resource};
 pub use route::{CommandRoute, GetRoute, ImageRoute, PostRoute, Route};
 pub use routing::Routes;
+pub use tags::tag_asked;
 pub use want::Wanted;
 pub use wanting::check_head;

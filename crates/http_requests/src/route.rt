@@ -2,6 +2,7 @@
 ghost use Rattle.std.specs.Prelude.{◌≡◌};
 ghost use Rattle.http_requests.specs.Routes as spec;
 
+use crate::target::{from_part, number_part};
 use desk_bytes::LONGEST_IMAGE;
 
 /// The most bytes of a body that isn't an image: 4 MiB.
@@ -21,12 +22,20 @@ pub enum GetRoute {
     Requests,
     /// `/requests/{no}`
     Request,
+    /// `/requests/from/{no}`
+    RequestsFrom,
     /// `/proposals`
     Proposals,
     /// `/proposals/{no}`
     Proposal,
     /// `/proposals/{no}/impact`
     Impact,
+    /// `/proposals/from/{no}`
+    ProposalsFrom,
+    /// `/waiting`
+    Waiting,
+    /// `/changes`
+    Changes,
     /// `/dbx`
     Dbx,
     /// `/db`
@@ -93,6 +102,65 @@ pub enum CommandRoute {
     Confirm,
     /// `/proposals/{no}/drop`; the content has no effect.
     Drop,
+}
+
+impl Route {
+    /// The part of a target that `{no}` stands for where the route's path has it.
+    pub(crate) fn number_part(self, target: &[u8]) -> &[u8]
+        ensures { result.now ≡ spec.part_of self target.now }
+    {
+        match self {
+            Route::Get(route) => route.number_part(target),
+            Route::Post(_) => number_part(target),
+        }
+    }
+}
+
+impl GetRoute {
+    /// Whether the route reads from a number on.
+    pub(crate) fn is_from(self) -> bool
+        ensures { result ≡ spec.is_from self }
+    {
+        match self {
+            GetRoute::RequestsFrom | GetRoute::ProposalsFrom | GetRoute::Minutes => true,
+            GetRoute::Requests
+            | GetRoute::Request
+            | GetRoute::Proposals
+            | GetRoute::Proposal
+            | GetRoute::Impact
+            | GetRoute::Waiting
+            | GetRoute::Changes
+            | GetRoute::Dbx
+            | GetRoute::Db
+            | GetRoute::Level
+            | GetRoute::Report
+            | GetRoute::People
+            | GetRoute::Me => false,
+        }
+    }
+
+    /// The part of a target that `{no}` stands for where the route's path has it.
+    pub(crate) fn number_part(self, target: &[u8]) -> &[u8]
+        ensures { result.now ≡ spec.part_read self target.now }
+    {
+        match self {
+            GetRoute::RequestsFrom | GetRoute::ProposalsFrom => from_part(target),
+            GetRoute::Requests
+            | GetRoute::Request
+            | GetRoute::Proposals
+            | GetRoute::Proposal
+            | GetRoute::Impact
+            | GetRoute::Waiting
+            | GetRoute::Changes
+            | GetRoute::Dbx
+            | GetRoute::Db
+            | GetRoute::Level
+            | GetRoute::Report
+            | GetRoute::Minutes
+            | GetRoute::People
+            | GetRoute::Me => number_part(target),
+        }
+    }
 }
 
 impl PostRoute {

@@ -1,11 +1,11 @@
 //! The table of paths.
 ghost use Rattle.std.specs.Prelude.{◌≡◌, IfOk, OnOk};
 ghost use Rattle.http_requests.specs.Paths.{added, get, listed_at, post_command, post_image};
-ghost use Rattle.http_requests.specs.Paths.{resource_of, table, with_images, with_lists};
-ghost use Rattle.http_requests.specs.Paths.{with_number, with_proposals, with_records};
-ghost use Rattle.http_requests.specs.Paths.{with_requests, with_rest};
+ghost use Rattle.http_requests.specs.Paths.{read_with_number, resource_of, table, with_images};
+ghost use Rattle.http_requests.specs.Paths.{with_lists, with_number, with_parts, with_proposals};
+ghost use Rattle.http_requests.specs.Paths.{with_records, with_requests, with_rest};
 
-use crate::target::{minute_number, number_part};
+use crate::target::minute_number;
 use crate::{CommandRoute, GetRoute, ImageRoute, PostRoute, Resource};
 use matchit::{InsertError, Router};
 use std::alloc::{AllocError, Global};
@@ -53,7 +53,7 @@ impl Routes {
     }
 
     /// The resource of a request's target, if the target is a path of the table, and one of the
-    /// minutes has a minute's number.
+    /// minutes or of a part of a list has a number.
     pub(crate) fn resource_of(&self, target: &str) -> Option<Resource>
         ensures { result ≡ resource_of target.now }
     {
@@ -64,16 +64,23 @@ impl Routes {
     }
 }
 
-/// The resource at a target, unless it is the minutes and the target has no minute's number.
+/// The route of GET at a target, unless it reads from a number on and the target has none.
+fn read_with_number(target: &[u8], route: GetRoute) -> Option<Resource>
+    ensures { result ≡ read_with_number target.now route }
+{
+    if route.is_from() && minute_number(route.number_part(target)).is_none() {
+        return None;
+    }
+    Some(Resource::Get(route))
+}
+
+/// The resource at a target, unless it is read from a number on and the target has none.
 fn with_number(target: &[u8], resource: Resource) -> Option<Resource>
     ensures { result ≡ with_number target.now resource }
 {
     match resource {
-        Resource::Get(GetRoute::Minutes) => match minute_number(number_part(target)) {
-            Some(_) => Some(resource),
-            None => None,
-        },
-        Resource::Get(_) | Resource::Post(_) | Resource::GetAndPost(_, _) => Some(resource),
+        Resource::Get(route) => read_with_number(target, route),
+        Resource::Post(_) | Resource::GetAndPost(_, _) => Some(resource),
     }
 }
 
@@ -88,6 +95,7 @@ fn router(alloc: Global) -> Result<Router<Resource>, InsertError>
     add_lists(&mut router)?;
     add_rest(&mut router)?;
     add_records(&mut router)?;
+    add_parts(&mut router)?;
     Ok(router)
 }
 
@@ -167,6 +175,17 @@ fn add_records(router: &mut Router<Resource>) -> Result<(), InsertError>
     add_get(router, "/minutes/{no}", GetRoute::Minutes)?;
     add_get(router, "/people", GetRoute::People)?;
     add_get(router, "/me", GetRoute::Me)?;
+    Ok(())
+}
+
+/// The paths of parts of lists, of what waits and of the number of changes.
+fn add_parts(router: &mut Router<Resource>) -> Result<(), InsertError>
+    ensures { OnOk result (router.new ≡ with_parts router.old) }
+{
+    add_get(router, "/requests/from/{no}", GetRoute::RequestsFrom)?;
+    add_get(router, "/proposals/from/{no}", GetRoute::ProposalsFrom)?;
+    add_get(router, "/waiting", GetRoute::Waiting)?;
+    add_get(router, "/changes", GetRoute::Changes)?;
     Ok(())
 }
 

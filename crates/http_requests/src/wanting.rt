@@ -6,7 +6,6 @@ ghost use Rattle.http_requests.specs.heads.Fields as parts;
 ghost use Rattle.http_requests.specs.Wanted as spec;
 
 use crate::fields::checked_fields;
-use crate::target::number_part;
 use crate::{Head, ParsedHead, Route, Routes, Wanted, WantedFault};
 
 /// The length of the route's body, where this one is announced.
@@ -37,18 +36,19 @@ fn check_parts<'b>(routes: &Routes, head: &Head<'b>) -> Result<Wanted<'b>, Wante
     Ok(Wanted {
         route,
         size,
-        number: number_part(head.target.as_bytes()),
+        number: route.number_part(head.target.as_bytes()),
         token: fields.token,
         key: fields.key,
         title: fields.title,
         stamp: fields.stamp,
+        if_match: head.if_match,
     })
 }
 
 /// What a head requests, or the first check that fails, in this order: no Transfer-Encoding; each
 /// field that counts comes once at most and Content-Length has 1 to 10 digits; the target is a path
-/// of the table, whose minutes have a number of 1 to 7 digits without a leading zero; the path has
-/// the method; POST has a Content-Length and GET has none above 0; the length is within the route's
+/// of the table, whose minutes and parts of lists have a number of 1 to 7 digits without a leading
+/// zero; the path has the method; POST has a Content-Length and GET has none above 0; the length is within the route's
 /// limit. It doesn't check the caller.
 pub fn check_head<'b>(routes: &Routes, head: &'b ParsedHead) -> Result<Wanted<'b>, WantedFault>
     ensures { (h : RequestHead) (rest : List ℕ) → ReadsRequest head.now h rest

@@ -21,6 +21,7 @@ use Rattle.desk_texts.specs.declared.reply.Reply.TheVariants.{Added, Submitted, 
 use Rattle.desk_texts.specs.declared.shown.ShownRequest.{ShownRequest}
 use Rattle.desk_texts.specs.declared.shown.ShownReturn.{ShownReturn}
 use Rattle.http_responses.specs.json.Values.{digest_data, component_data}
+use Rattle.http_responses.specs.json.Changes.{changes_data}
 use Rattle.http_responses.specs.json.Facts.{facts_data}
 use Rattle.http_responses.specs.json.Impacts.{adds_data, barred_data, rule_data}
 use Rattle.http_responses.specs.json.People.{person_data}
@@ -87,6 +88,10 @@ barred_has_no_float b = rw (rule_has_no_float b.rule) refl
 -- counts have none
 pub adds_have_no_float : (counts : Counts) → has_float (adds_data counts) ≡ false
 adds_have_no_float counts = refl
+
+-- a number of changes has none
+pub changes_have_no_float : (changes : ℕ) → has_float (changes_data changes) ≡ false
+changes_have_no_float changes = refl
 
 -- a person has none
 pub person_has_no_float : (p : ShownPerson) → has_float (person_data p) ≡ false

@@ -21,6 +21,7 @@ code_of status.NotFound = 404
 code_of (status.MethodNotAllowed methods) = 405
 code_of status.Conflict = 409
 code_of status.LengthRequired = 411
+code_of status.PreconditionFailed = 412
 code_of status.PayloadTooLarge = 413
 code_of status.UnprocessableEntity = 422
 code_of status.NotImplemented = 501

@@ -1,4 +1,5 @@
 pub mod Arrays
+pub mod Changes
 pub mod Facts
 pub mod ImpactPieces
 pub mod Impacts
@@ -9,4 +10,5 @@ pub mod Replies
 pub mod Requests
 pub mod Values
 pub mod Verdicts
+pub mod Waiting
 pub mod WholeProposals

@@ -54,6 +54,7 @@ fn push_own(text: &mut String, status: Status) -> Result<(), AllocError>
         | Status::NotFound
         | Status::Conflict
         | Status::LengthRequired
+        | Status::PreconditionFailed
         | Status::PayloadTooLarge
         | Status::UnprocessableEntity
         | Status::NotImplemented

@@ -12,8 +12,9 @@ mod status;
 
 pub use content::Content;
 pub use json::{
-    RequestsText, each_verdict_is_said, facts_json, impact_json, people_json, person_json,
-    proposal_json, proposals_json, reply_json, request_json, verdict_json,
+    RequestsText, changes_json, each_verdict_is_said, facts_json, impact_json, people_json,
+    person_json, proposal_json, proposals_json, reply_json, request_json, verdict_json,
+    waiting_json,
 };
 pub use outage::{Outage, outage_response};
 pub use refused::Refused;

@@ -86,6 +86,8 @@ pub enum Refused {
     OwnProposal,
     /// The proposal was confirmed or dropped before.
     ProposalClosed,
+    /// The request or proposal of that number isn't the one that `If-Match` names.
+    Mismatch,
     /// The head of an HTTP request is wrong or too long, or the request is cut short.
     BadHead,
     /// A field of an HTTP request is missing, wrong or given twice.
@@ -145,6 +147,7 @@ impl Refused {
             Refusal::NoSuchProposal => Refused::NoSuchProposal,
             Refusal::OwnProposal => Refused::OwnProposal,
             Refusal::ProposalClosed => Refused::ProposalClosed,
+            Refusal::Mismatch => Refused::Mismatch,
             Refusal::BadHead => Refused::BadHead,
             Refusal::BadField => Refused::BadField,
             Refusal::BadBody => Refused::BadBody,
@@ -214,6 +217,7 @@ impl Refused {
             Refused::NoSuchProposal => Refusal::NoSuchProposal,
             Refused::OwnProposal => Refusal::OwnProposal,
             Refused::ProposalClosed => Refusal::ProposalClosed,
+            Refused::Mismatch => Refusal::Mismatch,
             Refused::BadHead => Refusal::BadHead,
             Refused::BadField => Refusal::BadField,
             Refused::BadBody => Refusal::BadBody,
@@ -269,6 +273,7 @@ impl Refused {
             | Refused::OwnProposal
             | Refused::ProposalClosed => Status::Conflict,
             Refused::LengthNeeded => Status::LengthRequired,
+            Refused::Mismatch => Status::PreconditionFailed,
             Refused::TooLarge => Status::PayloadTooLarge,
             Refused::Short
             | Refused::NoMz

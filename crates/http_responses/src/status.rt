@@ -24,6 +24,8 @@ pub enum Status {
     Conflict,
     /// 411
     LengthRequired,
+    /// 412
+    PreconditionFailed,
     /// 413
     PayloadTooLarge,
     /// 422
@@ -48,6 +50,7 @@ impl Status {
             Status::MethodNotAllowed(_) => StatusCode::METHOD_NOT_ALLOWED,
             Status::Conflict => StatusCode::CONFLICT,
             Status::LengthRequired => StatusCode::LENGTH_REQUIRED,
+            Status::PreconditionFailed => StatusCode::PRECONDITION_FAILED,
             Status::PayloadTooLarge => StatusCode::PAYLOAD_TOO_LARGE,
             Status::UnprocessableEntity => StatusCode::UNPROCESSABLE_ENTITY,
             Status::NotImplemented => StatusCode::NOT_IMPLEMENTED,

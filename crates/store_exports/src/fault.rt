@@ -1,6 +1,6 @@
 //! Reasons why an export stops.
 ghost use Rattle.std.specs.Prelude.{◌≡◌};
-ghost use Rattle.store_exports.specs.Faults.{IsExportFailure};
+ghost use Rattle.store_exports.specs.Faults.{IsExportFailure, row_of};
 ghost use Rattle.store_exports.specs.declared.fault.ExportFault.TheVariants as faults;
 
 use desk_bytes::{Refusal, WriteFailed};
@@ -34,7 +34,8 @@ impl From<WriteFailed> for ExportFault {
 impl ExportFault {
     /// Its row in the table of refusals.
     pub(crate) fn refusal(self) -> Refusal
-        ensures { IsExportFailure result }
+        ensures exact { result ≡ row_of self }
+        ensures named { IsExportFailure result }
     {
         match self {
             ExportFault::Read(fault) => fault.refusal(),

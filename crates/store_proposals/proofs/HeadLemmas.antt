@@ -61,21 +61,25 @@ all_alone (p ∷ ps) h =
 -- ---- heads
 
 -- the head is that of one of these proposals, the only one of its number, which names what its kind says
-record IsHeadOf (ps : List ProposalRow) (h : ProposalHead) : Type 0 where
-  row : ProposalRow
-  alone : filter (λ (q : ProposalRow). h.number == q.number) ps ≡ row ∷ []
-  is : head_of row ≡ h
-  named : NamesByKind row
+pub record IsHeadOf (ps : List ProposalRow) (h : ProposalHead) : Type 0 where
+  pub row : ProposalRow
+  pub alone : filter (λ (q : ProposalRow). h.number == q.number) ps ≡ row ∷ []
+  pub is : head_of row ≡ h
+  pub named : NamesByKind row
 
 each_head : (ps qs : List ProposalRow) → AllByRecursion (IsAlone ps) qs → All NamesByKind qs → AllByRecursion (IsHeadOf ps) (map head_of qs)
 each_head ps [] alone named = tt
 each_head ps (q ∷ qs) alone named =
     (record { row = q; alone = alone.0; is = refl; named = All-head NamesByKind q qs named }, each_head ps qs alone.1 (All-tail NamesByKind q qs named))
 
+-- each proposal of tables that can be listed
+pub all_heads : (ps : List ProposalRow) → AreListable ps → AllByRecursion (IsHeadOf ps) (map head_of ps)
+all_heads ps can = each_head ps ps (all_alone ps can.apart) can.named
+
 heads_found : (ps : List ProposalRow) (heads : List ProposalHead) → AreListable ps → AreFound head_columns schema.proposals 1 (λ h. true) (map head_of ps) heads → AllByRecursion (IsHeadOf ps) heads
 heads_found ps heads can found =
     let every = filter_all (λ (h : ProposalHead). true) (map head_of ps) (all_of (λ (h : ProposalHead). true ≡ true) (λ h. refl) (map head_of ps)) in
-    all-permutation (IsHeadOf ps) (map head_of ps) heads (subst (λ l. IsPermutation l heads) every found.all) (each_head ps ps (all_alone ps can.apart) can.named)
+    all-permutation (IsHeadOf ps) (map head_of ps) heads (subst (λ l. IsPermutation l heads) every found.all) (all_heads ps can)
 
 -- ---- what is shown of them
 
@@ -85,7 +89,7 @@ counts_are row counts e named = subst (λ o. IfSome o (λ some. counts_of row.na
 by_kind : (row : ProposalRow) (s : ShownProposal) (counts : EntryCounts) → counts_by row.kind ≡ Some counts → NamesByKind row → s ≡ shown_by (head_of row) counts → s ≡ shown_row row
 by_kind row s counts e named is = is ∙ ap (shown_by (head_of row)) (sym (counts_are row counts e named))
 
-one_shown : (t : Tables) (h : ProposalHead) (s : ShownProposal) → IsHeadOf t.proposals h → IsToldOf t h s → IsShown t h s
+pub one_shown : (t : Tables) (h : ProposalHead) (s : ShownProposal) → IsHeadOf t.proposals h → IsToldOf t h s → IsShown t h s
 one_shown t h s it told = by (counts_by h.kind) refl told
   where
     by : (o : Option EntryCounts) → counts_by h.kind ≡ o → MatchOption o (IsShown t h s) (λ counts. s ≡ shown_by h counts) → IsShown t h s

@@ -3,5 +3,7 @@ pub mod HeadLemmas
 pub mod ItemLemmas
 pub mod KindLemmas
 pub mod NameLemmas
+pub mod NumberedLemmas
+pub mod PlaceLemmas
 pub mod ReadLemmas
 pub mod StampLemmas

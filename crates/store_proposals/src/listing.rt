@@ -74,7 +74,7 @@ fn counted<S: Alter>(
 
 /// The proposal of the head, as it is shown. Its items are read only where its kind doesn't tell
 /// how many it names.
-fn shown_of<S: Alter>(
+pub(crate) fn shown_of<S: Alter>(
     alloc: Global,
     tx: &mut Transaction<'_, S>,
     head: ProposalHead,

@@ -32,7 +32,7 @@ module _ {X : Type 0} where
   found_listed p [] (Some y) e = absurd cc
   found_listed p (x ∷ xs) o e = found_next p x xs o e (found_listed p xs o) (p x) refl
 
-  swapped : (p q : X → Bool) (xs : List X) → filter q (filter p xs) ≡ filter p (filter q xs)
+  pub swapped : (p q : X → Bool) (xs : List X) → filter q (filter p xs) ≡ filter p (filter q xs)
   swapped p q [] = refl
   swapped p q (x ∷ xs) = swapped_next p q x xs (swapped p q xs) (p x) (q x) refl refl
 

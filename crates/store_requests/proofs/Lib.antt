@@ -12,4 +12,5 @@ mod PeopleLemmas
 mod ProposedLemmas
 mod TellsLemmas
 mod VoteLemmas
+mod WaitingLemmas
 mod WholeLemmas

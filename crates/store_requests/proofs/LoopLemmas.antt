@@ -1,6 +1,5 @@
 -- Loops over rows, one row more.
 use Rattle.std.proofs.Common.{◌≡◌, ℕ, ◌+◌, ◌<◌, add-one, List, [], ◌∷◌, ◌++◌, map, take, length, get_or, refl, sym, ap, ◌∙◌, arith}
-use Rattle.std.specs.List.{AllZip}
 use Rattle.std.proofs.Math.Seq.{take-suc}
 use Rattle.std.proofs.lemmas.List.{map-append}
 use Rattle.desk_history.specs.Tables.{placed_from}
@@ -24,10 +23,3 @@ pub placed_more : (k place : ℕ) (xs : List Component) (x : Component) → plac
 placed_more k place [] x = ap (λ n. placed k n x ∷ []) (let same : place ≡ place + 0 = omega arith in same)
 placed_more k place (y ∷ ys) x =
     ap (λ l. placed k place y ∷ l) (placed_more k (place + 1) ys x ∙ ap (λ n. placed_from k (place + 1) ys ++ placed k n x ∷ []) (let same : place + 1 + length ys ≡ place + length (y ∷ ys) = omega arith in same))
-
--- a relation of two lists holds with one item more in each
-pub zip_more : {A B : Type 0} (P : A → B → Type 0) (xs : List A) (ys : List B) (x : A) (y : B) → AllZip P xs ys → P x y → AllZip P (xs ++ x ∷ []) (ys ++ y ∷ [])
-zip_more P [] [] x y h p = (p, tt)
-zip_more P [] (v ∷ ys) x y h p = absurd h
-zip_more P (u ∷ xs) [] x y h p = absurd h
-zip_more P (u ∷ xs) (v ∷ ys) x y h p = (h.0, zip_more P xs ys x y h.1 p)

@@ -19,6 +19,7 @@ use Rattle.desk_history.proofs.ListLemmas.{number_itself}
 use Rattle.desk_history.proofs.RunLemmas.{newest}
 use Rattle.store_reads.specs.CallColumns.{texts_of}
 use Rattle.store_reads.specs.declared.call_texts.CallTexts.{CallTexts}
+use Rattle.store_proposals.proofs.PlaceLemmas.{clamped}
 use Rattle.store_requests.specs.Lines.{AreAfter, HasFirst, HasLines, calls_at, line_after, line_of}
 use Rattle.store_requests.proofs.ItemLemmas.{drops, keeps}
 use Rattle.store_requests.proofs.OrderLemmas.{filter-reverse}
@@ -48,7 +49,7 @@ first_more t k n bytes more c it is spelt = record {
 
 -- ---- minutes by their places
 
-minutes_length : (cs : History) → length (minutes cs) ≡ length cs
+pub minutes_length : (cs : History) → length (minutes cs) ≡ length cs
 minutes_length [] = refl
 minutes_length (i ∷ cs) = ap suc (minutes_length cs)
 
@@ -180,18 +181,6 @@ module _ (owner : List ℕ) (cs : History) where
       let within = and_parts _ (nat_le (length (i ∷ l)) most_calls) (newest l i h).new.within in
       let most : nat_le (length (i ∷ l)) 1000000 ≡ true = within.1 in
       grind (arith, nat_tests, most)
-
-  -- no call comes after as many as a desk can have
-  clamped : (j most : ℕ) (xs : List Minute) → length xs ≤ most → drop (min j most) xs ≡ drop j xs
-  clamped j most xs h = by (nat_le j most) refl
-    where
-      by : (b : Bool) → nat_le j most ≡ b → drop (min j most) xs ≡ drop j xs
-      by true is = ap (λ n. drop n xs) (let low : j ≤ most = grind (arith, nat_tests, is) in (let same : min j most ≡ j = grind (arith, low) in same))
-      by false is =
-          let high : most ≤ j = grind (arith, nat_tests, is) in
-          let same : min j most ≡ most = grind (arith, high) in
-          let above : length xs ≤ j = omega (arith, h, high) in
-          ap (λ n. drop n xs) same ∙ drop_of_length-le xs h ∙ sym (drop_of_length-le xs above)
 
   -- the line after so many calls, by the texts of its call
   told_after : (calls : ℕ) → line_after cs calls ≡ flat_map line_of (calls_at (tables owner cs) (calls + 1))

@@ -1,97 +1,102 @@
 -- Requests read by their numbers, one after another.
-use Rattle.std.proofs.Common.{◌≡◌, ℕ, ◌+◌, ◌==◌, Bool, true, false, List, [], ◌∷◌, ◌++◌, filter, length, Option, Some, refl, sym, ap, subst, ◌∙◌, length-append, append-nil, arith}
+use Rattle.std.proofs.Common.{◌≡◌, ℕ, ◌+◌, Bool, true, false, List, [], ◌∷◌, ◌++◌, filter, length, Option, Some, refl, sym, ap, ap₂, subst, ◌∙◌, length-append, append-nil, arith}
 use Rattle.std.specs.List.{AllZip}
+use mir.Val.{bool_byte}
 use Rattle.std.proofs.lemmas.List.Elements.{filter-append}
 use Rattle.desk_texts.specs.declared.command.Person.{Person}
 use Rattle.desk_texts.specs.declared.shown.ShownRequest.{ShownRequest}
 use Rattle.desk_history.specs.Tables.{Tables}
 use Rattle.desk_history.specs.declared.rows.RequestRow.{RequestRow}
 use Rattle.store_reads.specs.Reads.{listed}
-use Rattle.store_requests.specs.Steps.{AreNumbered, IsShownIn, ListsFirst, TakesNumbered, sees_row}
+use Rattle.store_proposals.proofs.PlaceLemmas.{numbered_more, zip_append}
+use Rattle.store_requests.specs.Choosing.{ListsAfter, TakesNumbered, keeps_shown, picks_row}
+use Rattle.store_requests.specs.Steps.{IsShownIn, rows_at}
+use Rattle.store_requests.specs.declared.choice.Choice.{Choice}
 use Rattle.store_requests.proofs.ItemLemmas.{drops, keeps}
-use Rattle.store_requests.proofs.LoopLemmas.{zip_more}
 
 -- ---- one request
 
-module _ (reader : Person) (t : Tables) (k n : ℕ) (same : n ≡ k) (found : Option RequestRow) (row : RequestRow) (some : found ≡ Some row) where
+module _ (choice : Choice) (reader : Person) (t : Tables) (k n : ℕ) (same : n ≡ k) (found : Option RequestRow) (row : RequestRow) (some : found ≡ Some row) where
   -- the result of the read of the row
   abbrev pub IsFound : Type 0
-  IsFound = filter (λ (r : RequestRow). n == r.number) t.requests ≡ listed found
+  IsFound = rows_at t n ≡ listed found
 
-  only_row : IsFound → filter (λ (r : RequestRow). k == r.number) t.requests ≡ row ∷ []
-  only_row e = subst (λ m. filter (λ (r : RequestRow). m == r.number) t.requests ≡ row ∷ []) same (e ∙ ap listed some)
+  only_row : IsFound → rows_at t k ≡ row ∷ []
+  only_row e = subst (λ m. rows_at t m ≡ row ∷ []) same (e ∙ ap listed some)
 
-  pub takes_none : (held : List ShownRequest → Type 0) → sees_row reader row ≡ false → IsFound → TakesNumbered reader t k held held
+  made_of_none : picks_row choice reader row ≡ false → AllZip (IsShownIn t) (filter (picks_row choice reader) (row ∷ [])) []
+  made_of_none hidden = subst (λ rows. AllZip (IsShownIn t) rows []) (sym (drops (picks_row choice reader) row [] hidden)) tt
+
+  made_of_one : picks_row choice reader row ≡ true → (s : ShownRequest) → IsShownIn t row s → AllZip (IsShownIn t) (filter (picks_row choice reader) (row ∷ [])) (s ∷ [])
+  made_of_one seen s shown = subst (λ rows. AllZip (IsShownIn t) rows (s ∷ [])) (sym (keeps (picks_row choice reader) row [] seen)) (shown, tt)
+
+  pub takes_none : (held : List ShownRequest → Type 0) → picks_row choice reader row ≡ false → IsFound → TakesNumbered choice reader t k held held false
   takes_none held hidden e = record {
     row = row;
     is = only_row e;
-    stays = λ _ _ was. was;
-    takes = λ seen. absurd (let none : true ≡ false = sym seen ∙ hidden in cc);
+    made = [];
+    are = made_of_none hidden;
+    takes = λ l was. subst held (sym (append-nil l)) was;
+    count = refl;
   }
 
-  pub takes_one : (before after : List ShownRequest → Type 0) → sees_row reader row ≡ true → IsFound → (s : ShownRequest) → IsShownIn t row s
-      → ((held : List ShownRequest) → before held → after (held ++ s ∷ [])) → TakesNumbered reader t k before after
-  takes_one before after seen e s shown pushed = record {
-    row = row;
-    is = only_row e;
-    stays = λ hidden. absurd (let none : true ≡ false = sym seen ∙ hidden in cc);
-    takes = λ _. (s, shown, pushed);
-  }
+  pub takes_voted : (held : List ShownRequest → Type 0) → picks_row choice reader row ≡ true → IsFound → (s : ShownRequest) → keeps_shown choice reader s ≡ false → IsShownIn t row s
+      → TakesNumbered choice reader t k held held false
+  takes_voted held seen e s left shown =
+      let none : filter (keeps_shown choice reader) (s ∷ []) ≡ [] = drops (keeps_shown choice reader) s [] left in
+      record {
+        row = row;
+        is = only_row e;
+        made = s ∷ [];
+        are = made_of_one seen s shown;
+        takes = λ l was. subst held (sym (ap (λ m. l ++ m) none ∙ append-nil l)) was;
+        count = ap length none;
+      }
+
+  pub takes_one : (before after : List ShownRequest → Type 0) → picks_row choice reader row ≡ true → IsFound → (s : ShownRequest) → keeps_shown choice reader s ≡ true → IsShownIn t row s
+      → ((held : List ShownRequest) → before held → after (held ++ s ∷ [])) → TakesNumbered choice reader t k before after true
+  takes_one before after seen e s kept shown pushed =
+      let all : filter (keeps_shown choice reader) (s ∷ []) ≡ s ∷ [] = keeps (keeps_shown choice reader) s [] kept in
+      record {
+        row = row;
+        is = only_row e;
+        made = s ∷ [];
+        are = made_of_one seen s shown;
+        takes = λ l was. subst after (ap (λ m. l ++ m) (sym all)) (pushed l was);
+        count = ap length all;
+      }
 
 -- ---- one more
 
-module _ (reader : Person) (t : Tables) where
-  pub lists_none : (holds : List ShownRequest → Type 0) → holds [] → ListsFirst reader t 0 holds
-  lists_none holds none = record { rows = []; numbered = tt; count = refl; shown = []; are = tt; held = none }
+module _ (choice : Choice) (reader : Person) (t : Tables) where
+  pub lists_none : (k : ℕ) (holds : List ShownRequest → Type 0) → holds [] → ListsAfter choice reader t k k 0 holds
+  lists_none k holds none = record {
+    rows = [];
+    numbered = tt;
+    reached = (let same : k + 0 ≡ k = omega arith in same);
+    made = [];
+    are = tt;
+    held = none;
+    count = refl;
+  }
 
-  numbered_more : (k : ℕ) (rows : List RequestRow) (row : RequestRow) → AreNumbered t k rows → filter (λ (r : RequestRow). k + length rows == r.number) t.requests ≡ row ∷ []
-      → AreNumbered t k (rows ++ row ∷ [])
-  numbered_more k [] row all one = (subst (λ m. filter (λ (r : RequestRow). m == r.number) t.requests ≡ row ∷ []) (let is : k + 0 ≡ k = omega arith in is) one, tt)
-  numbered_more k (x ∷ rows) row all one = (
-    all.0,
-    numbered_more (k + 1) rows row all.1
-        (subst (λ m. filter (λ (r : RequestRow). m == r.number) t.requests ≡ row ∷ []) (let is : k + length (x ∷ rows) ≡ k + 1 + length rows = omega arith in is) one),
-  )
-
-  pub lists_more : (n : ℕ) (before after : List ShownRequest → Type 0) → ListsFirst reader t n before → TakesNumbered reader t (n + 1) before after → ListsFirst reader t (n + 1) after
-  lists_more n before after l it = by (sees_row reader it.row) refl
-    where
-      rows : List RequestRow
-      rows = l.rows ++ it.row ∷ []
-
-      numbered : AreNumbered t 1 rows
-      numbered =
-          numbered_more 1 l.rows it.row l.numbered
-          (subst (λ m. filter (λ (r : RequestRow). m == r.number) t.requests ≡ it.row ∷ []) (let has = l.count in (let is : n + 1 ≡ 1 + length l.rows = omega arith in is)) it.is)
-
-      count : length rows ≡ n + 1
-      count = let has = l.count in let long = length-append l.rows (it.row ∷ []) in omega arith
-
-      seen : filter (sees_row reader) rows ≡ filter (sees_row reader) l.rows ++ filter (sees_row reader) (it.row ∷ [])
-      seen = filter-append (sees_row reader) l.rows (it.row ∷ [])
-
-      by : (b : Bool) → sees_row reader it.row ≡ b → ListsFirst reader t (n + 1) after
-      by true h =
-          let taken = it.takes h in
-          let are : filter (sees_row reader) rows ≡ filter (sees_row reader) l.rows ++ it.row ∷ [] =
-          seen ∙ ap (λ xs. filter (sees_row reader) l.rows ++ xs) (keeps (sees_row reader) it.row [] h) in
-          record {
-            rows = rows;
-            numbered = numbered;
-            count = count;
-            shown = l.shown ++ taken.0 ∷ [];
-            are = subst (λ xs. AllZip (IsShownIn t) xs (l.shown ++ taken.0 ∷ [])) (sym are)
-                (zip_more (IsShownIn t) (filter (sees_row reader) l.rows) l.shown it.row taken.0 l.are taken.1);
-            held = taken.2 l.shown l.held;
-          }
-      by false h =
-          let are : filter (sees_row reader) rows ≡ filter (sees_row reader) l.rows =
-          seen ∙ ap (λ xs. filter (sees_row reader) l.rows ++ xs) (drops (sees_row reader) it.row [] h) ∙ append-nil (filter (sees_row reader) l.rows) in
-          record {
-            rows = rows;
-            numbered = numbered;
-            count = count;
-            shown = l.shown;
-            are = subst (λ xs. AllZip (IsShownIn t) xs l.shown) (sym are) l.are;
-            held = it.stays h l.shown l.held;
-          }
+  pub lists_more : (k n many : ℕ) (before after : List ShownRequest → Type 0) (is_taken : Bool) → ListsAfter choice reader t k n many before
+      → TakesNumbered choice reader t (n + 1) before after is_taken → ListsAfter choice reader t k (n + 1) (many + bool_byte is_taken) after
+  lists_more k n many before after is_taken l it =
+      let picks = picks_row choice reader in
+      let kept = keeps_shown choice reader in
+      let rows = l.rows ++ it.row ∷ [] in
+      let long : length rows ≡ length l.rows + 1 = length-append l.rows (it.row ∷ []) in
+      let reached = l.reached in
+      let place : n + 1 ≡ k + 1 + length l.rows = omega (arith, reached) in
+      let both : filter kept (l.made ++ it.made) ≡ filter kept l.made ++ filter kept it.made = filter-append kept l.made it.made in
+      record {
+        rows = rows;
+        numbered = numbered_more (rows_at t) (k + 1) l.rows it.row l.numbered (subst (λ m. rows_at t m ≡ it.row ∷ []) place it.is);
+        reached = omega (arith, reached, long);
+        made = l.made ++ it.made;
+        are = subst (λ xs. AllZip (IsShownIn t) xs (l.made ++ it.made)) (sym (filter-append picks l.rows (it.row ∷ [])))
+            (zip_append (IsShownIn t) (filter picks l.rows) (filter picks (it.row ∷ [])) l.made it.made l.are it.are);
+        held = subst after (sym both) (it.takes (filter kept l.made) l.held);
+        count = ap length both ∙ length-append (filter kept l.made) (filter kept it.made) ∙ ap₂ ◌+◌ l.count it.count;
+      }

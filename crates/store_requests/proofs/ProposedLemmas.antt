@@ -1,24 +1,34 @@
--- The answer to a person who asks for all proposals.
-use Rattle.std.proofs.Common.{◌≡◌, ◌≢◌, ℕ, ◌+◌, ◌<◌, ◌≤◌, ◌==◌, pos, Bool, true, false, List, [], ◌∷◌, map, filter, length, Option, Some, None, refl, sym, ap, ap₂, subst, ◌∙◌, arith}
+-- The answers to a person who asks for proposals: all, those from a number on, and those that wait.
+use Rattle.std.proofs.Common.{◌≡◌, ◌≢◌, ◌⊎◌, inl, inr, ℕ, ◌+◌, ◌-◌, ◌<◌, ◌≤◌, ◌==◌, pos, Bool, true, false, List, [], ◌∷◌, ◌++◌, map, filter, length, take, drop, min, Option, Some, None, Result, Ok, Err, refl, sym, ap, ap₂, subst, ◌∙◌, arith}
 use Rattle.std.specs.Prelude.{reverse}
+use Rattle.std.specs.Result.{result_map_both}
 use Rattle.std.specs.List.{AllByRecursion, AllZip}
 use Rattle.std.specs.List.Sorted.{IsPermutation}
 use Rattle.std.specs.Ordering.{int_cmp, is_lt, ordering_then}
 use Rattle.std.specs.declared.cmp.Ordering.{Ordering}
 use Rattle.std.specs.declared.cmp.Ordering.TheVariants.{Less, Equal, Greater}
 use Rattle.std.proofs.lemmas.Bool.Decides.{nat_tests}
+use Rattle.std.proofs.lemmas.List.{length-drop, length-map, length-reverse, reverse-append, take-append-drop, take_all}
+use Rattle.std.proofs.lemmas.List.Elements.{filter-append}
+use Rattle.std.proofs.Math.ListN.{drop_of_length-le}
 use Rattle.std.proofs.lemmas.List.Sorted.{Contains-permutation, IsPermutation-reverse, IsPermutation-sym, IsPermutation-trans}
 use Rattle.sqlite.specs.declared.types.Value.TheVariants.{Int}
 use Rattle.sqlite_trees.specs.Tree.{IsAscending}
-use Rattle.sqlite_trees.proofs.ListLemmas.{all-permutation, all_of, ascending-map, ascending_weaker, filter-map, filter_all, map-map}
+use Rattle.sqlite_trees.proofs.ListLemmas.{all-filter, all-permutation, all_of, all_weaker, ascending-map, ascending_weaker, filter-map, filter_all, map-map}
 use Rattle.sqlite_value.specs.Order.{value_cmp}
 use Rattle.sqlite_value.proofs.OrderLemmas.{value_cmp-Int}
+use Rattle.desk_bytes.specs.declared.refusal.Refusal.{Refusal}
+use Rattle.desk_texts.specs.Callers.{caller_name}
+use Rattle.desk_texts.specs.declared.caller.Caller.{Caller}
 use Rattle.desk_texts.specs.declared.command.Call.{Call}
+use Rattle.desk_texts.specs.declared.command.Person.{Person}
 use Rattle.desk_texts.specs.declared.proposal.Proposal.{Proposal as ShownProposal}
 use Rattle.desk_history.specs.Calls.{History}
+use Rattle.desk_exports.specs.ListParts.{part_from, proposal_number, proposals_from}
 use Rattle.desk_history.specs.Proposals.{Named, Proposal, proposal_state, proposals, proposed_by, with_next}
-use Rattle.desk_history.specs.Shown.{shown_proposal}
+use Rattle.desk_history.specs.Shown.{IsGiven, proposals_for, shown_proposal}
 use Rattle.desk_history.specs.Tables.{proposal_row, tables}
+use Rattle.desk_exports.specs.Waiting.{awaits}
 use Rattle.desk_history.specs.declared.rows.ProposalRow.{ProposalRow}
 use Rattle.store_sql.specs.Queries.{by_keys}
 use Rattle.store_schema.specs.Columns.{by_first}
@@ -28,6 +38,9 @@ use Rattle.store_reads.specs.Reads.{AreFound}
 use Rattle.store_reads.specs.declared.proposal_head.ProposalHead.{ProposalHead}
 use Rattle.store_reads.proofs.PartLemmas.{Ascends, one_order}
 use Rattle.store_proposals.specs.Listing.{AreListable, AreListed, IsShown, shown_row}
+use Rattle.store_proposals.specs.Numbered.{ListsUpTo, heads_at, picks_head}
+use Rattle.store_proposals.proofs.PlaceLemmas as place
+use Rattle.store_requests.proofs.ListingLemmas.{fewer}
 use Rattle.store_requests.proofs.OrderLemmas.{Differ, IsOnly, all_only, differ_along, map-reverse, sorted_ascends, turned}
 
 -- ---- numbers of proposals
@@ -45,6 +58,20 @@ first_next : (ps : List Proposal) (c : Call) (named : Option Named) → ((n : �
     → IsAscending (λ (a b : Proposal). b.number < a.number) ps → IsAscending (λ (a b : Proposal). b.number < a.number) (with_next ps c named)
 first_next ps c None above up = up
 first_next ps c (Some named) above up = (above (length ps + 1) (omega arith), up)
+
+abbrev proposal_no : Proposal → ℕ
+proposal_no p = p.number
+
+oldest_next : (ps : List Proposal) (c : Call) (named : Option Named) → place.HaveNumbers proposal_no 1 (reverse ps) → place.HaveNumbers proposal_no 1 (reverse (with_next ps c named))
+oldest_next ps c None up = up
+oldest_next ps c (Some named) up =
+    let p : Proposal = record { number = length ps + 1; officer = caller_name c.caller; command = c.command; named = named } in
+    let long = length-reverse ps in
+    subst (place.HaveNumbers proposal_no 1) (sym (reverse-append (p ∷ []) ps)) (place.next_number proposal_no 1 (reverse ps) p up (omega (arith, long)))
+
+oldest_first : (cs : History) → place.HaveNumbers proposal_no 1 (reverse (proposals cs))
+oldest_first [] = tt
+oldest_first (i ∷ cs) = oldest_next (proposals cs) i.call (proposed_by i) (oldest_first cs)
 
 newest_first : (cs : History) → IsAscending (λ (a b : Proposal). b.number < a.number) (proposals cs)
 newest_first [] = tt
@@ -116,8 +143,94 @@ module _ (owner : List ℕ) (cs : History) where
   each_shown (p ∷ ps) alone [] z = absurd z
   each_shown (p ∷ ps) alone (s ∷ given) z = ap₂ ◌∷◌ (one_shown p alone.0 z.0.0 s z.0.1 z.0.2) (each_shown ps alone.1 given z.1)
 
+  each_alone : AllByRecursion IsAlone (reverse (proposals cs))
+  each_alone = all-permutation IsAlone (proposals cs) (reverse (proposals cs)) (IsPermutation-reverse (proposals cs)) (all_only (λ (p : Proposal). p.number) (proposals cs) (newest_first cs))
+
   pub are_shown : AreListable (tables owner cs).proposals → (given : List ShownProposal) → AreListed given (tables owner cs) → given ≡ map (shown_proposal cs) (reverse (proposals cs))
-  are_shown can given it =
-      let ps = proposals cs in
-      let alone : AllByRecursion IsAlone (reverse ps) = all-permutation IsAlone ps (reverse ps) (IsPermutation-reverse ps) (all_only (λ (p : Proposal). p.number) ps (newest_first cs)) in
-      each_shown (reverse ps) alone given (subst (λ l. AllZip (IsShown (tables owner cs)) l given) (heads_are it.0 it.1) (it.2 can))
+  are_shown can given it = each_shown (reverse (proposals cs)) each_alone given (subst (λ l. AllZip (IsShown (tables owner cs)) l given) (heads_are it.0 it.1) (it.2 can))
+
+  -- ---- proposals read by their numbers
+
+  abbrev at : ℕ → List ProposalHead
+  at k = heads_at (tables owner cs) k
+
+  head_alone : (p : Proposal) → IsAlone p → place.IsAt proposal_no head at p
+  head_alone p only = ap (map head_of) (filter-map (λ (r : ProposalRow). p.number == r.number) row (proposals cs) ∙ ap (map row) only)
+
+  module _ (officer : Option (List ℕ)) where
+    abbrev picked : Proposal → Bool
+    picked p = picks_head officer (head p)
+
+    -- the list shows the first of those that are picked after the first k
+    pub after_shown : AreListable (tables owner cs).proposals → (k last most : ℕ) → last ≡ length (tables owner cs).proposals → (given : List ShownProposal)
+        → ListsUpTo officer (tables owner cs) k last most given → given ≡ map (shown_proposal cs) (take most (filter picked (drop k (reverse (proposals cs)))))
+    after_shown can k last most count given it =
+        let l = it.lists in
+        let oldest = reverse (proposals cs) in
+        let m = length l.heads in
+        let rest = drop k oldest in
+        let part = take m rest in
+        let reached = l.reached in
+        let within = it.within in
+        let all : length (map row (proposals cs)) ≡ length (proposals cs) = length-map (proposals cs) row in
+        let long : length oldest ≡ last = length-reverse (proposals cs) ∙ sym all ∙ sym count in
+        let left : length rest ≡ length oldest - k = length-drop k oldest in
+        let few : m ≤ length rest = omega (arith, reached, within, long, left) in
+        let up : place.HaveNumbers proposal_no (k + 1) rest =
+        subst (λ n. place.HaveNumbers proposal_no n rest) (let next : 1 + k ≡ k + 1 = omega arith in next) (place.numbers_after proposal_no k 1 oldest (oldest_first cs)) in
+        let only : AllByRecursion IsAlone rest = place.all_drop IsAlone k oldest each_alone in
+        let heads : l.heads ≡ map head part = place.rows_are proposal_no head at (k + 1) rest up (all_weaker IsAlone (place.IsAt proposal_no head at) head_alone rest only) l.heads l.numbered few in
+        let made : AllZip (IsShown (tables owner cs)) (map head (filter picked part)) given =
+        subst (λ hs. AllZip (IsShown (tables owner cs)) hs given) (ap (filter (picks_head officer)) heads ∙ filter-map (picks_head officer) head part) (l.are can) in
+        let shown : given ≡ map (shown_proposal cs) (filter picked part) = each_shown (filter picked part) (all-filter IsAlone picked part (place.all_take IsAlone m rest only)) given made in
+        let many : length (filter picked part) ≡ it.many = sym (length-map (filter picked part) (shown_proposal cs)) ∙ sym (ap length shown) ∙ l.count in
+        let most_of : length (filter picked part) ≤ most = (let bound = it.few in omega (arith, many, bound)) in
+        let ended : (length (filter picked part) ≡ most) ⊎ (filter picked (drop m rest) ≡ []) = elim it.ends [
+          | inl full ↦ inl (many ∙ full)
+          | inr done ↦ inr (ap (filter picked) (let low : length rest ≤ m = omega (arith, reached, done, long, left) in drop_of_length-le rest low))
+        ] in
+        let parts : filter picked rest ≡ filter picked part ++ filter picked (drop m rest) = ap (filter picked) (sym (take-append-drop m rest)) ∙ filter-append picked part (drop m rest) in
+        shown ∙ ap (map (shown_proposal cs)) (sym (ap (take most) parts ∙ place.first_of most (filter picked part) (filter picked (drop m rest)) most_of ended))
+
+  -- those from a number on
+  pub from_shown : AreListable (tables owner cs).proposals → (n last : ℕ) → last ≡ length (tables owner cs).proposals → (given : List ShownProposal)
+      → ListsUpTo None (tables owner cs) (min (n - 1) last) last 1000 given → given ≡ map (shown_proposal cs) (part_from proposal_number n (reverse (proposals cs)))
+  from_shown can n last count given it =
+      let oldest = reverse (proposals cs) in
+      let all : length (map row (proposals cs)) ≡ length (proposals cs) = length-map (proposals cs) row in
+      let long : length oldest ≡ last = length-reverse (proposals cs) ∙ sym all ∙ sym count in
+      let same : drop (min (n - 1) last) oldest ≡ drop (n - 1) oldest = place.clamped (n - 1) last oldest (omega (arith, long)) in
+      let every : filter (λ (p : Proposal). true) (drop (min (n - 1) last) oldest) ≡ drop (min (n - 1) last) oldest =
+      filter_all (λ (p : Proposal). true) (drop (min (n - 1) last) oldest) (all_of (λ (p : Proposal). true ≡ true) (λ p. refl) (drop (min (n - 1) last) oldest)) in
+      after_shown None can (min (n - 1) last) last 1000 count given it
+      ∙ ap (λ ps. map (shown_proposal cs) (take 1000 ps)) (every ∙ same ∙ sym (place.from_is proposal_no n 1 oldest (oldest_first cs)))
+
+  -- those that wait for an officer
+  pub waiting_shown : AreListable (tables owner cs).proposals → (p : Person) (last : ℕ) → last ≡ length (tables owner cs).proposals → (given : List ShownProposal)
+      → ListsUpTo (Some p.name) (tables owner cs) 0 last last given → given ≡ map (shown_proposal cs) (filter (awaits cs p) (reverse (proposals cs)))
+  waiting_shown can p last count given it =
+      let oldest = reverse (proposals cs) in
+      let all : length (map row (proposals cs)) ≡ length (proposals cs) = length-map (proposals cs) row in
+      let long : length oldest ≡ last = length-reverse (proposals cs) ∙ sym all ∙ sym count in
+      let few = fewer (awaits cs p) oldest in
+      after_shown (Some p.name) can 0 last last count given it ∙ ap (map (shown_proposal cs)) (take_all last (filter (awaits cs p) oldest) (omega (arith, few, long)))
+
+-- ---- the answer that is due about a part
+
+module _ (cs : History) (n : ℕ) where
+  refused_of : {V : Type 0} (all : Result (List Proposal) Refusal) (r : Refusal) (shows : List Proposal → V → Type 0) → IsGiven all (Err r) shows
+      → IsGiven (result_map_both (part_from proposal_number n) (λ (e : Refusal). e) all) (Err r) shows
+  refused_of (Ok ps) r shows h = absurd h
+  refused_of (Err e) r shows h = h
+
+  given_of : {V : Type 0} (all : Result (List Proposal) Refusal) (shows : List Proposal → V → Type 0) (v : V) → IsGiven all (Ok v) (λ ps w. shows (part_from proposal_number n ps) w)
+      → IsGiven (result_map_both (part_from proposal_number n) (λ (e : Refusal). e) all) (Ok v) shows
+  given_of (Ok ps) shows v h = h
+  given_of (Err e) shows v h = absurd h
+
+  pub part_refused : {V : Type 0} (c : Caller) (r : Refusal) (shows : List Proposal → V → Type 0) → IsGiven (proposals_for cs c) (Err r) shows → IsGiven (proposals_from cs c n) (Err r) shows
+  part_refused c r shows h = refused_of (proposals_for cs c) r shows h
+
+  pub part_given : {V : Type 0} (c : Caller) (shows : List Proposal → V → Type 0) (v : V) → IsGiven (proposals_for cs c) (Ok v) (λ ps w. shows (part_from proposal_number n ps) w)
+      → IsGiven (proposals_from cs c n) (Ok v) shows
+  part_given c shows v h = given_of (proposals_for cs c) shows v h

@@ -61,26 +61,9 @@ pub record IsShownIn (t : Tables) (row : RequestRow) (s : ShownRequest) : Type 0
 abbrev pub sees_row : Person → RequestRow → Bool
 sees_row reader row = sees reader.role (bytes_eq reader.name row.submitter)
 
--- The row of this number is read, the only one. The list takes the request in, if the person is shown it, and stays otherwise.
-pub record TakesNumbered (reader : Person) (t : Tables) (k : ℕ) (before after : List ShownRequest → Type 0) : Type 0 where
-  pub row : RequestRow
-  pub is : filter (λ r. k == r.number) t.requests ≡ row ∷ []
-  pub stays : sees_row reader row ≡ false → (held : List ShownRequest) → before held → after held
-  pub takes : sees_row reader row ≡ true → (s : ShownRequest) × IsShownIn t row s × ((held : List ShownRequest) → before held → after (held ++ s ∷ []))
-
--- the rows of the numbers from this one on, each the only one of its number
-abbrev pub AreNumbered : Tables → ℕ → List RequestRow → Type 0
-AreNumbered t k [] = ⊤
-AreNumbered t k (row ∷ rows) = (filter (λ r. k == r.number) t.requests ≡ row ∷ []) × AreNumbered t (k + 1) rows
-
--- The rows of the first n numbers are read; the list holds the requests of those that the person is shown, in their order.
-pub record ListsFirst (reader : Person) (t : Tables) (n : ℕ) (holds : List ShownRequest → Type 0) : Type 0 where
-  pub rows : List RequestRow
-  pub numbered : AreNumbered t 1 rows
-  pub count : length rows ≡ n
-  pub shown : List ShownRequest
-  pub are : AllZip (IsShownIn t) (filter (sees_row reader) rows) shown
-  pub held : holds shown
+-- the rows of this number
+abbrev pub rows_at : Tables → ℕ → List RequestRow
+rows_at t k = filter (λ r. k == r.number) t.requests
 
 -- the row, if it is there and the person is shown its request
 abbrev pub visible_row : Person → Option RequestRow → Option RequestRow

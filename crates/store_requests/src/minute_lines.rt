@@ -11,6 +11,7 @@ ghost use Rattle.store_requests.specs.Telling.{IsOfficerRefusal, TellsOf};
 ghost use Rattle.store_sql.specs.States.{DoesInside, CommitsNothing, Spares, StaysInside};
 ghost use Rattle.desk_texts.specs.declared.caller.Caller.TheVariants as callers;
 
+use crate::listing::MOST_OF_PART;
 use crate::officer::officer_of;
 use desk_bytes::{Refusal, put_each};
 use desk_history::MOST_CALLS;
@@ -19,9 +20,6 @@ use itoa::Buffer;
 use sqlite::{Alter, Transaction};
 use std::alloc::Global;
 use store_reads::{CallTexts, ReadFault, call_numbered};
-
-/// The most lines that are given at once.
-const MOST_LINES: u64 = 1_000;
 
 /// Appends the line of a call.
 fn push_line(text: &mut Vec<u8>, call: &CallTexts) -> Result<(), ReadFault>
@@ -74,7 +72,7 @@ fn lines_after<S: Alter>(
 {
     let mut text = Vec::new(alloc);
     let mut lines = 0;
-    while lines < MOST_LINES {
+    while lines < MOST_OF_PART {
         let Some(call) = call_numbered(alloc, tx, calls + lines + 1)? else {
             return Ok(text);
         };

@@ -10,11 +10,13 @@ use desk_exports::{Octets, Reading, Shown, ShownPeople, ShownProposals};
 use desk_history::{BarredImage, File, ProposalRow, Rule, ShownImpact, ShownPerson, Verdict};
 use desk_service::token_digest;
 use desk_texts::{
-    Caller, Command, Confirmation, Counts, Facts, Import, Key, Outcome, Person, PersonName,
-    Proposal, ProposalKind, ProposalNumber, ProposalState, Reply, RequestNumber, Role, State,
-    Title, command_text,
+    Caller, Carried, Command, Confirmation, Counts, Facts, Import, Key, Outcome, Person,
+    PersonName, Proposal, ProposalKind, ProposalNumber, ProposalState, Reply, RequestNumber, Role,
+    ShownRequest, ShownVotes, State, Title, command_text,
 };
 use http_responses::RequestsText;
+use pe_image::Extent;
+use sbat::Components;
 use std::alloc::{AllocError, Global};
 
 /// A desk that shows no history. It knows one token, and fails if a command's key is `store`.
@@ -53,10 +55,14 @@ fn tell(asked: &mut String, words: &[&str]) -> Result<(), AllocError> {
 fn word_of(reading: &Reading) -> &'static str {
     match reading {
         Reading::Requests => "requests",
+        Reading::RequestsFrom(_) => "requests-from",
         Reading::Request(_) => "request",
         Reading::Proposals => "proposals",
+        Reading::ProposalsFrom(_) => "proposals-from",
         Reading::Proposal(_) => "proposal",
         Reading::Impact(_) => "impact",
+        Reading::Waiting => "waiting",
+        Reading::Changes => "changes",
         Reading::Dbx => "dbx",
         Reading::Db => "db",
         Reading::Level => "level",
@@ -123,6 +129,31 @@ fn reply(command: &Command) -> Option<Reply> {
         })),
         Command::Drop(proposal) => Some(Reply::Dropped(*proposal)),
     }
+}
+
+/// The facts of an image whose file has the SHA-256 of 32 times `bb`.
+fn facts(alloc: Global) -> Option<Facts> {
+    Some(Facts {
+        extent: Extent::new(1024, 0)?,
+        file: Digest::from([0xbb; 32]),
+        digest: Digest::from([0xcc; 32]),
+        signing: Digest::from([0xcc; 32]),
+        carried: Carried::new(Vec::new(alloc))?,
+        components: Components::new(Vec::new(alloc))?,
+    })
+}
+
+/// The request of this number, of ann's, without a vote.
+fn request(alloc: Global, number: RequestNumber) -> Option<ShownRequest> {
+    Some(ShownRequest {
+        number,
+        submitter: PersonName::parse(alloc, b"ann").ok()?,
+        title: Title::parse(alloc, b"Boot loader").ok()?,
+        facts: facts(alloc)?,
+        state: State::Open,
+        votes: ShownVotes::new(Vec::new(alloc)),
+        returned: None,
+    })
 }
 
 /// One proposal, of otto's.
@@ -214,10 +245,15 @@ fn octets(alloc: Global, bytes: &[u8]) -> Option<Octets> {
 /// What is shown, or `None` if memory is refused.
 fn given(alloc: Global, reading: &Reading) -> Option<Shown<RequestsText>> {
     Some(match reading {
-        Reading::Requests | Reading::Request(_) => Shown::Requests(RequestsText::new(alloc)),
-        Reading::Proposals => Shown::Proposals(proposals(alloc)?),
+        Reading::Requests | Reading::RequestsFrom(_) => {
+            Shown::Requests(RequestsText::new(alloc))
+        }
+        Reading::Request(number) => Shown::Request(request(alloc, *number)?),
+        Reading::Proposals | Reading::ProposalsFrom(_) => Shown::Proposals(proposals(alloc)?),
         Reading::Proposal(number) => Shown::Proposal(whole(alloc, *number)?),
         Reading::Impact(number) => Shown::Impact(*number, impact_of_one(alloc)?),
+        Reading::Waiting => Shown::Waiting(RequestsText::new(alloc), proposals(alloc)?),
+        Reading::Changes => Shown::Changes(7),
         Reading::Dbx => Shown::Dbx(octets(alloc, b"\ndbx")?),
         Reading::Db => Shown::Db(octets(alloc, b"")?),
         Reading::Level => Shown::Level(octets(alloc, b"sbat,1,2021030218\n")?),
@@ -233,6 +269,7 @@ fn refused(reading: &Reading) -> Option<Refusal>
 {
     match reading {
         Reading::Request(number) => match number.value() {
+            6 => None,
             7 => Some(Refusal::NoSuchRequest),
             _ => Some(Refusal::NotYourRole),
         },

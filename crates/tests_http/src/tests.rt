@@ -2,6 +2,7 @@
 mod bodies;
 mod checks;
 mod clients;
+mod conditions;
 mod connections;
 mod heads;
 mod reading;
@@ -10,4 +11,5 @@ mod results;
 mod routes;
 mod serving;
 mod slow_peers;
+mod tags;
 mod texts;

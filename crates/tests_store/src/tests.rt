@@ -1,8 +1,8 @@
 //! Desks over stores in memory, played by the lines of scripts.
 use desk_bytes::{Digest, Guid, Refusal};
 use desk_rules::{View, decide};
-use desk_store::Desk;
-use desk_texts::{Call, Facts, Person, Reply, ShownRequest, reply_text};
+use desk_store::{Desk, Waits};
+use desk_texts::{Call, Caller, Facts, Person, Proposal, Reply, ShownRequest, reply_text};
 use itoa::Buffer;
 use sbat::Component;
 use sqlite::{Alter, Connection, MemStore};
@@ -16,6 +16,7 @@ mod closing;
 mod days;
 mod founding;
 mod line;
+mod parts;
 mod restarting;
 mod scripts;
 mod serving;

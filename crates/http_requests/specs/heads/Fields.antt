@@ -44,6 +44,7 @@ pub record Parts : Type 0 where
   pub desk_key : Occurrence
   pub desk_title : Occurrence
   pub desk_stamp : Occurrence
+  pub if_match : Occurrence
 
 -- the parts of a head
 abbrev pub parts_of : RequestHead → Parts
@@ -56,6 +57,7 @@ parts_of h = record {
   desk_key = field_of h (codes "Desk-Key");
   desk_title = field_of h (codes "Desk-Title");
   desk_stamp = field_of h (codes "Desk-Stamp");
+  if_match = field_of h (codes "If-Match");
 }
 
 -- the occurrence in a value of the code
@@ -75,4 +77,5 @@ shown head = record {
   desk_key = occurrence head.desk_key;
   desk_title = occurrence head.desk_title;
   desk_stamp = occurrence head.desk_stamp;
+  if_match = occurrence head.if_match;
 }

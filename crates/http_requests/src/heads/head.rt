@@ -22,4 +22,6 @@ pub struct Head<'b> {
     pub desk_key: Given<'b>,
     pub desk_title: Given<'b>,
     pub desk_stamp: Given<'b>,
+    /// The precondition of a command (RFC 9110, section 13.1.1).
+    pub if_match: Given<'b>,
 }

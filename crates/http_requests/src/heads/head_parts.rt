@@ -71,5 +71,6 @@ pub(crate) fn parts_at<'b>(bytes: &'b [u8], spans: &HeadSpans) -> Head<'b>
         desk_key: value_given(bytes, fields, "Desk-Key"),
         desk_title: value_given(bytes, fields, "Desk-Title"),
         desk_stamp: value_given(bytes, fields, "Desk-Stamp"),
+        if_match: value_given(bytes, fields, "If-Match"),
     }
 }

@@ -3,14 +3,15 @@ use Rattle.std.specs.Prelude.{ℕ, [], ◌∷◌, Option, Some, None, codes}
 use Rattle.serde_json.specs.Data.{Data, null, string}
 use Rattle.desk_texts.specs.Words.{proposal_kind_text, proposal_state_text}
 use Rattle.desk_history.specs.declared.rows.ProposalRow.{ProposalRow}
-use Rattle.http_responses.specs.json.Values.{components_data, digests_data, object_from, whole}
+use Rattle.desk_exports.specs.Tags.{tag_of}
+use Rattle.http_responses.specs.json.Values.{components_data, digest_data, digests_data, object_from, whole}
 
 -- the stamp of a level, or null
 abbrev pub stamp_data : Option ℕ → Data
 stamp_data None = null
 stamp_data (Some stamp) = whole stamp
 
--- a proposal: what it names, in the command's order, its kind, its officer and its state
+-- a proposal: what it names, in the command's order, its kind, its officer, its state and its tag
 abbrev pub whole_proposal_data : ProposalRow → Data
 whole_proposal_data p = object_from (
     (codes "certificates", digests_data p.named.certificates)
@@ -22,4 +23,5 @@ whole_proposal_data p = object_from (
     ∷ (codes "passed", whole p.named.passed)
     ∷ (codes "stamp", stamp_data p.named.stamp)
     ∷ (codes "state", string (proposal_state_text p.state))
+    ∷ (codes "tag", digest_data (tag_of p.named))
     ∷ [])

@@ -1,4 +1,4 @@
-//! Texts of arrays, whose items are written one after another.
+//! Texts of arrays, whose items are written one after another, and what stands in front of them.
 ghost use Rattle.std.specs.Prelude.{◌≡◌, ◌++◌, ◌∷◌, IfOk, MatchResult, OnOk, map};
 ghost use Rattle.serde_json.specs.Data.{Data, array};
 ghost use Rattle.serde_json.specs.View.{items_of};
@@ -71,14 +71,59 @@ pub(crate) fn in_brackets(mut text: Vec<u8>) -> Result<Vec<u8>, AllocError>
     Ok(text)
 }
 
+/// The text with this in front. It is moved up, and never held twice.
+pub(crate) fn in_front(front: &[u8], text: Vec<u8>) -> Result<Vec<u8>, AllocError>
+    ensures { IfOk result (λ whole. whole.items ≡ front.now ++ text.items) }
+{
+    let mut whole = text;
+    whole.extend_from_slice(front)?;
+    whole.rotate_right(front.len());
+    Ok(whole)
+}
+
+/// Adds the texts of items, with a comma between two.
+fn push_with_commas<T: JsonText>(
+    alloc: Global,
+    text: &mut Vec<u8>,
+    items: &[T],
+) -> Result<(), AllocError>
+    ensures { OnOk result (text.new.items
+        ≡ text.old.items ++ spec.with_commas T.as_data items.now) }
+{
+    match items.split_first() {
+        Some((first, others)) => {
+            let one = first.json_text(alloc)?;
+            text.extend_from_slice(&one)?;
+            push_items(alloc, text, others)
+        }
+        None => Ok(()),
+    }
+}
+
+/// Adds the text of an array of the items, in their order. Takes memory for it, and for the tree of
+/// one item at a time.
+#[tactic(auto, using(crate::proofs::ArrayLemmas::array_with_commas))]
+pub(crate) fn push_array<T: JsonText>(
+    alloc: Global,
+    text: &mut Vec<u8>,
+    items: &[T],
+) -> Result<(), AllocError>
+    ensures { OnOk result (text.new.items
+        ≡ text.old.items ++ compact_text (array (items_of (map T.as_data items.now)))) }
+{
+    text.push(b'[')?;
+    push_with_commas(alloc, text, items)?;
+    text.push(b']')?;
+    Ok(())
+}
+
 /// The text of an array of the items, in their order. Takes memory for it, and for the tree of one
 /// item at a time.
-#[tactic(auto, using(crate::proofs::ArrayLemmas::bracketed_array))]
 pub(crate) fn array_text<T: JsonText>(alloc: Global, items: &[T]) -> Result<Vec<u8>, AllocError>
     ensures { IfOk result (λ text.
         text.items ≡ compact_text (array (items_of (map T.as_data items.now)))) }
 {
     let mut text = Vec::new(alloc);
-    push_items(alloc, &mut text, items)?;
-    in_brackets(text)
+    push_array(alloc, &mut text, items)?;
+    Ok(text)
 }

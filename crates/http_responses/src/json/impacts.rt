@@ -5,7 +5,7 @@ ghost use Rattle.serde_json.specs.Written.{compact_text};
 ghost use Rattle.http_responses.specs.json.ImpactPieces as pieces;
 ghost use Rattle.http_responses.specs.json.Impacts as spec;
 
-use crate::json::arrays::{JsonText, array_text};
+use crate::json::arrays::{JsonText, array_text, in_front};
 use crate::json::in_json::InJson;
 use crate::json::verdicts::{below, one_word};
 use desk_history::{BarredImage, Rule, ShownImpact};
@@ -111,9 +111,7 @@ fn between(front: &[u8], text: Vec<u8>, end: &[u8]) -> Result<Vec<u8>, AllocErro
 {
     let mut whole = text;
     whole.extend_from_slice(end)?;
-    whole.extend_from_slice(front)?;
-    whole.rotate_right(front.len());
-    Ok(whole)
+    in_front(front, whole)
 }
 
 /// The impact of the proposal of this number as a JSON object. Takes memory for the text, and for

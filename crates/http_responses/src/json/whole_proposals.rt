@@ -5,6 +5,7 @@ ghost use Rattle.serde_json.specs.Written.{compact_text};
 ghost use Rattle.http_responses.specs.json.WholeProposals as spec;
 
 use crate::json::in_json::{InJson, array_of};
+use desk_exports::proposal_tag;
 use desk_history::ProposalRow;
 use sbat::Stamp;
 use serde_json::{Value, json};
@@ -33,6 +34,7 @@ impl InJson for ProposalRow {
         let passed = self.named.passed();
         let stamp = stamp_value(self.named.stamp());
         let state = self.state.text();
+        let tag = proposal_tag(alloc, &self.named)?.value(alloc)?;
         json!(in alloc; {
             "certificates": certificates,
             "components": components,
@@ -43,6 +45,7 @@ impl InJson for ProposalRow {
             "passed": passed,
             "stamp": stamp,
             "state": state,
+            "tag": tag,
         })
     }
 }

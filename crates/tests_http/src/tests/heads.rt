@@ -86,6 +86,20 @@ NoRoute GET /minutes/+1 HTTP/1.1||
 NoRoute GET /minutes/12345678 HTTP/1.1||
 NoRoute POST /minutes/x HTTP/1.1||
 NoRoute GET /minutes/1/2 HTTP/1.1||
+NoRoute GET /requests/from/ HTTP/1.1||
+NoRoute GET /requests/from/x HTTP/1.1||
+NoRoute GET /requests/from/0 HTTP/1.1||
+NoRoute GET /requests/from/012 HTTP/1.1||
+NoRoute GET /requests/from/12345678 HTTP/1.1||
+NoRoute POST /requests/from/review HTTP/1.1|Content-Length: 1|Desk-Key: k||
+NoRoute GET /requests/from/1/review HTTP/1.1||
+NoRoute POST /requests/from/1/review HTTP/1.1|Content-Length: 1|Desk-Key: k||
+NoRoute GET /requests/1/from HTTP/1.1||
+NoRoute GET /proposals/from/+1 HTTP/1.1||
+NoRoute GET /proposals/from/impact HTTP/1.1||
+NoRoute GET /proposals/from/1/impact HTTP/1.1||
+NoRoute GET /waiting/ HTTP/1.1||
+NoRoute GET /changes/1 HTTP/1.1||
 NoRoute GET /people/ HTTP/1.1||
 NoRoute GET /me/ HTTP/1.1||
 NoRoute POST /facts/1 HTTP/1.1|Content-Length: 1||
@@ -104,6 +118,10 @@ BadMethod POST /proposals HTTP/1.1||
 BadMethod POST /proposals/12 HTTP/1.1||
 BadMethod POST /proposals/x/impact HTTP/1.1||
 BadMethod POST /minutes/1 HTTP/1.1||
+BadMethod POST /requests/from/1 HTTP/1.1||
+BadMethod POST /proposals/from/1 HTTP/1.1||
+BadMethod POST /waiting HTTP/1.1||
+BadMethod HEAD /changes HTTP/1.1||
 BadMethod POST /people HTTP/1.1||
 BadMethod POST /me HTTP/1.1||
 BadMethod HEAD /me HTTP/1.1||
@@ -121,6 +139,7 @@ BadField GET /level HTTP/1.1|Content-Length: 1||
 BadField GET /requests/x HTTP/1.1|Content-Length: 9999999999||
 BadField GET /proposals HTTP/1.1|Content-Length: 1||
 BadField GET /me HTTP/1.1|Content-Length: 1||
+BadField GET /waiting HTTP/1.1|Content-Length: 1||
 TooLarge POST /verdict HTTP/1.1|Content-Length: 134217729||
 TooLarge POST /facts HTTP/1.1|Content-Length: 134217729||
 TooLarge POST /requests HTTP/1.1|Content-Length: 9999999999||
@@ -143,12 +162,14 @@ BadField POST /proposals/x/confirm HTTP/1.1|Content-Length: 0||
 BadField POST /proposals/0/drop HTTP/1.1|Content-Length: 0|Desk-Key: a b||
 NoSuchRequest POST /requests/x/review HTTP/1.1|Content-Length: 1|Desk-Key: k||
 NoSuchRequest GET /requests/0 HTTP/1.1||
+NoSuchRequest GET /requests/from HTTP/1.1||
 NoSuchRequest GET /requests/007 HTTP/1.1||
 NoSuchRequest GET /requests/+7 HTTP/1.1||
 NoSuchRequest GET /requests/1000000 HTTP/1.1||
 NoSuchRequest GET /requests/%31 HTTP/1.1||
 NoSuchRequest POST /requests/07/withdraw HTTP/1.1|Content-Length: 0|Desk-Key: k||
 NoSuchProposal GET /proposals/x HTTP/1.1||
+NoSuchProposal GET /proposals/from HTTP/1.1||
 NoSuchProposal GET /proposals/012 HTTP/1.1||
 NoSuchProposal GET /proposals/1000000 HTTP/1.1||
 NoSuchProposal GET /proposals/confirm HTTP/1.1||
@@ -162,6 +183,8 @@ NoSuchProposal POST /proposals/+1/drop HTTP/1.1|Content-Length: 0|Desk-Key: k||
 Submit POST /requests HTTP/1.1|Content-Length: 0134217728|Desk-Key: k|Desk-Title: t||
 Requests GET /requests HTTP/1.1||
 Request GET /requests/999999 HTTP/1.1||
+RequestsFrom GET /requests/from/1 HTTP/1.1||
+RequestsFrom GET /requests/from/9999999 HTTP/1.1||
 Review POST /requests/12/review HTTP/1.1|Content-Length: 4194304|Desk-Key: k||
 Withdraw POST /requests/12/withdraw HTTP/1.1|Content-Length: 0|Desk-Key: k||
 Return POST /requests/1/return HTTP/1.1|Content-Length: 134217728|Desk-Key: k||
@@ -179,11 +202,14 @@ Drop POST /proposals/999999/drop HTTP/1.1|Content-Length: 0|Desk-Key: k||
 Proposals GET /proposals HTTP/1.1||
 Proposal GET /proposals/999999 HTTP/1.1||
 Impact GET /proposals/1/impact HTTP/1.1||
+ProposalsFrom GET /proposals/from/1 HTTP/1.1||
+Waiting GET /waiting HTTP/1.1||
+Changes GET /changes HTTP/1.1|Content-Length: 0||
 Verdict POST /verdict HTTP/1.1|Content-Length: 134217728||
 Facts POST /facts HTTP/1.1|Content-Length: 134217728|Desk-Key: a b||
 Dbx GET /dbx HTTP/1.1|Content-Length: 0000000000||
 Db GET /db HTTP/1.1|Desk-Key: a b||
-Level GET /level HTTP/1.1||
+Level GET /level HTTP/1.1|If-Match: *|If-Match: *||
 Report GET /report HTTP/1.1||
 Minutes GET /minutes/1 HTTP/1.1||
 Minutes GET /minutes/9999999 HTTP/1.1||
@@ -216,7 +242,7 @@ fn ask(alloc: Global, wanted: &Wanted<'_>) -> Result<Asked, AskedFault> {
 }
 
 /// The head that begins the bytes.
-fn parsed(alloc: Global, mut bytes: &[u8]) -> Option<ParsedHead> {
+pub(super) fn parsed(alloc: Global, mut bytes: &[u8]) -> Option<ParsedHead> {
     match read_head(alloc, &mut bytes, &mut Watch::new()).ok()? {
         Begun::Head(head) => Some(head),
         Begun::Nothing | Begun::NoHead => None,
@@ -252,10 +278,14 @@ fn name_of_read(asked: &ReadAsked) -> &'static str {
 fn name_of_reading(reading: &Reading) -> &'static str {
     match reading {
         Reading::Requests => "Requests",
+        Reading::RequestsFrom(_) => "RequestsFrom",
         Reading::Request(_) => "Request",
         Reading::Proposals => "Proposals",
+        Reading::ProposalsFrom(_) => "ProposalsFrom",
         Reading::Proposal(_) => "Proposal",
         Reading::Impact(_) => "Impact",
+        Reading::Waiting => "Waiting",
+        Reading::Changes => "Changes",
         Reading::Dbx => "Dbx",
         Reading::Db => "Db",
         Reading::Level => "Level",
@@ -424,11 +454,15 @@ fn asks_for_number(alloc: Global) -> Option<bool> {
     let proposal = Reading::Proposal(ProposalNumber::new(120)?);
     let impact = Reading::Impact(ProposalNumber::new(120)?);
     let minutes = Reading::Minutes(1_000_001);
+    let requests = Reading::RequestsFrom(1_000_001);
+    let proposals = Reading::ProposalsFrom(12);
     Some(
         read_by(alloc, "GET /requests/120 HTTP/1.1||") == Some(request)
             && read_by(alloc, "GET /proposals/120 HTTP/1.1||") == Some(proposal)
             && read_by(alloc, "GET /proposals/120/impact HTTP/1.1||") == Some(impact)
-            && read_by(alloc, "GET /minutes/1000001 HTTP/1.1||") == Some(minutes),
+            && read_by(alloc, "GET /minutes/1000001 HTTP/1.1||") == Some(minutes)
+            && read_by(alloc, "GET /requests/from/1000001 HTTP/1.1||") == Some(requests)
+            && read_by(alloc, "GET /proposals/from/12 HTTP/1.1||") == Some(proposals),
     )
 }
 

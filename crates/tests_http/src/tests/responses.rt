@@ -22,6 +22,7 @@ NoSuchProposal HTTP/1.1 404 Not Found|Content-Type: application/json|Content-Len
 OwnProposal HTTP/1.1 409 Conflict|Content-Type: application/json|Content-Length: 35|Connection: close||{"name":"OwnProposal","refused":38}
 ProposalClosed HTTP/1.1 409 Conflict|Content-Type: application/json|Content-Length: 38|Connection: close||{"name":"ProposalClosed","refused":39}
 LengthNeeded HTTP/1.1 411 Length Required|Content-Type: application/json|Content-Length: 36|Connection: close||{"name":"LengthNeeded","refused":55}
+Mismatch HTTP/1.1 412 Precondition Failed|Content-Type: application/json|Content-Length: 32|Connection: close||{"name":"Mismatch","refused":49}
 TooLarge HTTP/1.1 413 Payload Too Large|Content-Type: application/json|Content-Length: 32|Connection: close||{"name":"TooLarge","refused":56}
 BadBody HTTP/1.1 422 Unprocessable Entity|Content-Type: application/json|Content-Length: 31|Connection: close||{"name":"BadBody","refused":52}
 SbatRow HTTP/1.1 422 Unprocessable Entity|Content-Type: application/json|Content-Length: 38|Connection: close||{"at":7,"name":"SbatRow","refused":12}
@@ -46,6 +47,7 @@ fn refusal(name: &str) -> Refusal {
         "NoSuchProposal" => Refusal::NoSuchProposal,
         "OwnProposal" => Refusal::OwnProposal,
         "ProposalClosed" => Refusal::ProposalClosed,
+        "Mismatch" => Refusal::Mismatch,
         "LengthNeeded" => Refusal::LengthNeeded,
         "TooLarge" => Refusal::TooLarge,
         "BadBody" => Refusal::BadBody,

@@ -1,4 +1,5 @@
-//! Replies, requests, facts, proposals, impacts, people and verdicts in JSON.
+//! Replies, requests, facts, proposals, impacts, people, verdicts, what waits and the number of
+//! changes in JSON.
 use desk_bytes::Digest;
 use desk_history::{
     BarredImage, Below, File, ProposalRow, Rule, ShownImpact, ShownPerson, Verdict,
@@ -9,8 +10,8 @@ use desk_texts::{
     ShownRequest, ShownReturn, ShownVote, ShownVotes, State, Title, Vote,
 };
 use http_responses::{
-    RequestsText, facts_json, impact_json, people_json, person_json, proposal_json, proposals_json,
-    reply_json, request_json, verdict_json,
+    RequestsText, changes_json, facts_json, impact_json, people_json, person_json, proposal_json,
+    proposals_json, reply_json, request_json, verdict_json, waiting_json,
 };
 use pe_image::Extent;
 use sbat::{Component, ComponentName, Components, Generation, Stamp};
@@ -269,9 +270,41 @@ fn writes_lists_of_proposals(rt: HostRuntime) -> Result<(), Fail> {
     Ok(())
 }
 
+/// Whether the text of what waits is the signed request, twice, and those proposals.
+fn is_waiting(alloc: Global) -> Result<bool, Fail> {
+    let mut requests = RequestsText::new(alloc);
+    let request = signed(alloc)?;
+    requests.push(&request)?;
+    requests.push(&request)?;
+    let text = waiting_json(alloc, requests, proposals(alloc)?.as_slice())?;
+    let wanted = format!(in alloc;
+        "{{\"requests\":[{SIGNED},{SIGNED}],\"proposals\":{PROPOSALS}}}"
+    )?;
+    Ok(text.as_slice() == wanted.as_bytes())
+}
+
+#[test]
+fn writes_what_waits(rt: HostRuntime) -> Result<(), Fail> {
+    let nothing = b"{\"requests\":[],\"proposals\":[]}".as_slice();
+    let none = waiting_json(rt.alloc(), RequestsText::new(rt.alloc()), &[])?;
+    assert!(rt; none.as_slice() == nothing, "nothing");
+    assert!(rt; is_waiting(rt.alloc())?, "requests and proposals");
+    Ok(())
+}
+
+#[test]
+fn writes_the_number_of_changes(rt: HostRuntime) -> Result<(), Fail> {
+    let first = changes_json(rt.alloc(), 0)?;
+    assert!(rt; first.as_slice() == b"{\"changes\":0}".as_slice(), "0");
+    let last = changes_json(rt.alloc(), u64::MAX)?;
+    let wanted = b"{\"changes\":18446744073709551615}".as_slice();
+    assert!(rt; last.as_slice() == wanted, "the greatest");
+    Ok(())
+}
+
 /// A proposal with all that it names, some of it twice.
 const WHOLE: &str =
-    r#"{"certificates":["cccccccccccccccccccccccccccccccccccccccccccccccccccccccccccccccc"],"components":[["shim",4],["grub",4294967295]],"digests":["bbbbbbbbbbbbbbbbbbbbbbbbbbbbbbbbbbbbbbbbbbbbbbbbbbbbbbbbbbbbbbbb","aaaaaaaaaaaaaaaaaaaaaaaaaaaaaaaaaaaaaaaaaaaaaaaaaaaaaaaaaaaaaaaa","bbbbbbbbbbbbbbbbbbbbbbbbbbbbbbbbbbbbbbbbbbbbbbbbbbbbbbbbbbbbbbbb"],"kind":"import","number":999999,"officer":"olga","passed":7,"stamp":2024010100,"state":"dropped"}"#;
+    r#"{"certificates":["cccccccccccccccccccccccccccccccccccccccccccccccccccccccccccccccc"],"components":[["shim",4],["grub",4294967295]],"digests":["bbbbbbbbbbbbbbbbbbbbbbbbbbbbbbbbbbbbbbbbbbbbbbbbbbbbbbbbbbbbbbbb","aaaaaaaaaaaaaaaaaaaaaaaaaaaaaaaaaaaaaaaaaaaaaaaaaaaaaaaaaaaaaaaa","bbbbbbbbbbbbbbbbbbbbbbbbbbbbbbbbbbbbbbbbbbbbbbbbbbbbbbbbbbbbbbbb"],"kind":"import","number":999999,"officer":"olga","passed":7,"stamp":2024010100,"state":"dropped","tag":"d1980952fd1b89edf22d7644c21b2715aaa789024484cdd1c0d72e776cc1e672"}"#;
 
 /// Three digests, of which two are the same.
 fn digests(alloc: Global) -> Result<Digests, Fail> {

@@ -1,4 +1,5 @@
 //! Digests of images.
+use super::failing::takes_few_reads;
 use super::{Call, check, image};
 use authenticode::{digest, signing_digest, sums};
 use desk_bytes::{Digest, Watch};
@@ -51,7 +52,7 @@ fn digest_joined(alloc: Global, bytes: &[u8], spans: Ranges) -> Result<Digest, F
 }
 
 /// Appends the digest of an image in pieces and that to be signed, if the calls agree with one
-/// another and with hashes of whole lists.
+/// another and with hashes of whole lists, and read no piece more often than they may.
 pub fn of_digests(alloc: Global, told: &mut String, input: &str) -> Result<(), Fail> {
     let bytes = image(alloc, input)?;
     let mut reader = Slow {
@@ -67,6 +68,9 @@ pub fn of_digests(alloc: Global, told: &mut String, input: &str) -> Result<(), F
     let signed = signing_digest(&mut source, &places)?;
     if found.digest != hashed || found.signing != signed {
         return Ok(told.push_str("two calls differ")?);
+    }
+    if !takes_few_reads(&bytes)? {
+        return Ok(told.push_str("a piece is read again")?);
     }
     let whole = Digest::from(Sha256::digest(&bytes));
     if found.file != whole || hashed != digest_joined(alloc, &bytes, ranges(&places))? {

@@ -6,7 +6,7 @@ use authenticode::sums;
 use cli_lines::{Fault, print_ranges};
 use desk_bytes::Refusal;
 use desk_service::facts;
-use pe_image::{Bytes, LayoutFault, ReadFailed, Source, layout};
+use pe_image::{Bytes, LayoutFault, PIECE, ReadFailed, Source, gap, layout};
 use std::alloc::Global;
 use std::test::Fail;
 
@@ -50,18 +50,18 @@ const WHOLE: &str =
     "1584 + 70:0200 232:0006000030000000 368:2e73626174 376:0f000000 384:0002000000040000 \
     1024:677275622c332c612c622c312c750a 1536:T";
 
-/// The refusal of an image whose reads fail after this many.
+/// The refusal of an image whose reads fail after this many, or none if it has no more. `File`: a
+/// failed read wasn't reported, or another followed it.
 fn fault_after(alloc: Global, bytes: &[u8], left: u64) -> Option<Refusal> {
     let mut source = Failing {
         bytes,
         left,
         failures: 0,
     };
-    let fault = facts(alloc, &mut source).err()?;
-    if source.failures == 1 {
-        Some(fault.refusal())
-    } else {
-        Some(Refusal::File)
+    match facts(alloc, &mut source).err() {
+        Some(fault) if source.failures == 1 => Some(fault.refusal()),
+        None if source.failures == 0 => None,
+        _ => Some(Refusal::File),
     }
 }
 
@@ -74,7 +74,11 @@ fn tells_of_each_read_that_fails(rt: HostRuntime) -> Result<(), Fail> {
     for left in 0..200 {
         match fault_after(rt.alloc(), &bytes, left) {
             Some(refusal) => {
-                assert!(rt; refusal == Refusal::Read);
+                assert!(rt; refusal == Refusal::Read, "{left}");
+                assert!(rt;
+                    left.saturating_sub(last) <= 1,
+                    "none is passed over: {left}"
+                );
                 last = left;
             }
             None => {}
@@ -103,6 +107,20 @@ fn takes_reads(alloc: Global, words: &str, reads: u64) -> Result<bool, Fail> {
     Ok(is_hashed && is_refused && enough.left == 0 && enough.failures == 0 && fewer.failures == 1)
 }
 
+/// Whether hashing an image takes at most one read of each piece, or two if there is a gap.
+pub(super) fn takes_few_reads(bytes: &[u8]) -> Result<bool, Fail> {
+    let places = layout(&mut Bytes(bytes))?;
+    let passes = if gap(&places) == 0 { 1 } else { 2 };
+    let mut source = Failing {
+        bytes,
+        left: (bytes.len() as u64)
+            .div_ceil(PIECE as u64)
+            .saturating_mul(passes),
+        failures: 0,
+    };
+    Ok(sums(&mut source, &places).is_ok())
+}
+
 /// Two pieces; and three of a file whose last range is read again, from 41024 on, which are three
 /// more.
 #[test]
@@ -124,8 +142,13 @@ fn prints_no_range_where_a_read_fails(rt: HostRuntime) -> Result<(), Fail> {
         };
         let mut out = Vec::new(rt.alloc());
         let answer = print_ranges(&mut source, &mut out);
+        assert!(rt; source.failures == u64::from(answer.is_err()), "{left}");
         if answer.is_err() {
             assert!(rt; answer == Err(Fault::from(Refusal::Read)) && out.is_empty());
+            assert!(rt;
+                left.saturating_sub(last) <= 1,
+                "none is passed over: {left}"
+            );
             last = left;
         }
     }

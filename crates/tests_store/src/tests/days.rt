@@ -1,7 +1,7 @@
 //! Days of a desk in a store: lines of calls to it, and its expected answers.
 use super::asking::answer;
 use super::founding::{made, opened, run};
-use super::scripts::{PROPOSALS, REQUESTS, SPOILT};
+use super::scripts::{PARTS, PROPOSALS, REQUESTS, SPOILT, WAITING};
 use super::*;
 
 /// A desk without calls.
@@ -24,7 +24,7 @@ fn again(alloc: Global, desk: Memory, text: &str) -> Option<(Memory, String)> {
 /// Whether the line is for the store under the desk.
 fn is_for_store(given: &str) -> bool {
     let word = given.split_once(" ").map_or(given, |parts| parts.0);
-    matches!(word, "reopen" | "UPDATE")
+    matches!(word, "reopen" | "UPDATE" | "INSERT")
 }
 
 /// The desk after a line, and its answer.
@@ -64,6 +64,16 @@ fn a_day_of_requests(rt: HostRuntime) -> Result<(), Fail> {
 #[test]
 fn a_day_of_proposals(rt: HostRuntime) -> Result<(), Fail> {
     play(&rt, rt.alloc(), PROPOSALS)
+}
+
+#[test]
+fn a_day_of_waiting(rt: HostRuntime) -> Result<(), Fail> {
+    play(&rt, rt.alloc(), WAITING)
+}
+
+#[test]
+fn a_thousand_requests_come_in_parts(rt: HostRuntime) -> Result<(), Fail> {
+    play(&rt, rt.alloc(), PARTS)
 }
 
 #[test]

@@ -1,6 +1,8 @@
 //! The lines of days: `WHO KEY VERB .. : ANSWER` is a call that the desk's view for it decides
-//! first, `alone ..` one without a view, `lists WHO` shows the requests. A digest is shown by its
-//! first byte. After `reopen`, and after a line in capitals, which is SQL for the store under the
+//! first, `alone ..` one without a view, `lists WHO` shows the requests. `requests WHO NUMBER` shows
+//! how many there are from that number on, the first and the last, `proposals WHO NUMBER` the
+//! proposals from there on, `waits WHO` the numbers of requests that wait, and then the proposals, and
+//! `changes WHO` the number that tells of changes. A digest is shown by its first byte. After `reopen`, and after a line in capitals, which is SQL for the store under the
 //! desk, it is opened again.
 
 /// Requests, reviews, returns and listings, and the requests that people are shown. The certificate
@@ -98,6 +100,110 @@ ann a1 submit shim 170 34 0 0 : Revoked
 ann a1 submit shim 32 32 1 204 0 : Revoked
 ann a1 submit shim 32 32 0 2 shim 2 grub 3 : Revoked
 ann a1 submit shim 32 32 0 2 shim 2 grub 4 : submitted 1";
+
+/// What waits for each role, as the day goes on, and the number that tells of changes.
+pub(super) const WAITING: &str = "\
+console p1 add ann submitter 1 : added ann
+console p2 add rita reviewer 2 : added rita
+console p3 add raul reviewer 3 : added raul
+console p4 add sid signer 4 : added sid
+console p5 add olga officer 5 : added olga
+console p6 add otto officer 6 : added otto
+console p7 add abe submitter 7 : added abe
+waits ann : and
+waits olga : and
+waits eve : UnknownCaller
+waits console : NotYourRole
+changes ann : 0
+changes rita : 7
+changes eve : UnknownCaller
+changes console : NotYourRole
+ann a1 submit shim 160 160 0 0 : submitted 1
+rita r1 submit shim 161 161 0 0 : submitted 2
+abe b1 submit shim 162 162 0 0 : submitted 3
+waits ann : 1 and
+waits abe : 3 and
+waits rita : 1 2 3 and
+waits raul : 1 2 3 and
+waits sid : and
+waits olga : and
+changes ann : 1
+changes abe : 1
+changes rita : 10
+raul q1 yes 1 : reviewed 1 open
+waits raul : 2 3 and
+waits rita : 1 2 3 and
+changes ann : 2
+changes abe : 1
+rita r2 yes 1 : reviewed 1 approved
+raul q2 no 3 : reviewed 3 rejected
+waits ann : 1 and
+waits abe : and
+waits rita : 2 and
+waits raul : 2 and
+waits sid : 1 and
+changes ann : 3
+changes abe : 2
+rita r3 withdraw 2 : withdrawn 2
+waits rita : and
+waits raul : and
+olga o1 list-certificate 204 : listed
+sid s1 return 1 160 160 1 204 0 : returned 1
+waits sid : and
+waits ann : and
+changes ann : 5
+ann a2 submit shim 163 163 0 0 : submitted 4
+ann a3 withdraw 4 : withdrawn 4
+changes ann : 7
+changes abe : 2
+changes sid : 18
+olga o2 revoke 170 : proposed 1
+otto t1 import 0 0 1 171 1 204 0 : proposed 2
+olga o3 revoke 172 : proposed 3
+waits olga : and 2 otto
+waits otto : and 1 olga 3 olga
+waits ann : and
+changes ann : 7
+changes otto : 21
+otto t2 confirm 1 : confirmed 1 1 0 0 0
+olga o4 drop 2 : dropped 2
+reopen
+waits olga : and
+waits otto : and 3 olga
+proposals olga 0 : 1 olga 2 otto 3 olga
+proposals olga 1 : 1 olga 2 otto 3 olga
+proposals otto 2 : 2 otto 3 olga
+proposals otto 4 : 
+proposals otto 18446744073709551615 : 
+proposals ann 1 : NotYourRole
+proposals eve 1 : UnknownCaller
+proposals console 1 : NotYourRole
+requests ann 0 : 2 1 4
+requests ann 2 : 1 4 4
+requests abe 1 : 1 3 3
+requests abe 4 : 0
+requests sid 1 : 4 1 4
+requests olga 3 : 2 3 4
+requests olga 5 : 0
+requests eve 1 : UnknownCaller
+requests console 1 : NotYourRole";
+
+/// A part holds 1,000 requests: the others stand in the next one.
+pub(super) const PARTS: &str = "\
+console p1 add ann submitter 1 : added ann
+console p2 add abe submitter 2 : added abe
+console p3 add rita reviewer 3 : added rita
+ann a1 submit shim 160 160 0 0 : submitted 1
+INSERT INTO requests WITH RECURSIVE n (i) AS (SELECT 2 UNION ALL SELECT i + 1 FROM n WHERE i < 1000) SELECT i, submitter, title, length, gap, file, digest, signing, state FROM n, requests WHERE no = 1
+requests rita 1 : 1000 1 1000
+abe b1 submit shim 161 161 0 0 : submitted 1001
+requests rita 1 : 1000 1 1000
+requests rita 2 : 1000 2 1001
+requests rita 1001 : 1 1001 1001
+requests rita 1002 : 0
+requests rita 18446744073709551615 : 0
+requests ann 1001 : 0
+requests abe 1 : 1 1001 1001";
 
 /// A row that no desk writes: a call that needs it is `Store`, then each is `Reopen`, and nothing
 /// was changed.

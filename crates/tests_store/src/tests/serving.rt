@@ -16,6 +16,8 @@ type Served = OpenDesk<MemStore>;
 
 /// The people who are added before the requests, with tokens.
 const PEOPLE: &str = "\
+ann submitter ann-token-0000001
+rita reviewer rita-token-000002
 olga officer olga-token-000005
 otto officer otto-token-000006";
 
@@ -25,6 +27,22 @@ const ROWS: &str =
 POST /level HTTP/1.1|Desk-Token: olga-token-000005|Desk-Key: k1|Content-Length: 54||{"component":"grub","generation":3,"stamp":2024010100} => HTTP/1.1 200 OK|Content-Type: application/json|Content-Length: 33|Connection: close||{"proposal":1,"reply":"proposed"}
 POST /proposals/1/confirm HTTP/1.1|Desk-Token: olga-token-000005|Desk-Key: k2|Content-Length: 0|| => HTTP/1.1 409 Conflict|Content-Type: application/json|Content-Length: 35|Connection: close||{"name":"OwnProposal","refused":38}
 POST /proposals/1/confirm HTTP/1.1|Desk-Token: otto-token-000006|Desk-Key: k1|Content-Length: 0|| => HTTP/1.1 200 OK|Content-Type: application/json|Content-Length: 89|Connection: close||{"certificates":0,"components":1,"digests":0,"passed":0,"proposal":1,"reply":"confirmed"}"#;
+
+/// Requests with If-Match, of the tag of what they are about or of another one, and the whole
+/// responses.
+const CONDITIONS: &str =
+    r#"POST /requests HTTP/1.1|Desk-Token: ann-token-0000001|Desk-Key: k1|Desk-Title: Boot loader|Content-Length: 1024||@ => HTTP/1.1 200 OK|Content-Type: application/json|Content-Length: 33|Connection: close||{"reply":"submitted","request":1}
+POST /requests/1/review HTTP/1.1|Desk-Token: rita-token-000002|Desk-Key: k1|If-Match: "aaaaaaaaaaaaaaaaaaaaaaaaaaaaaaaaaaaaaaaaaaaaaaaaaaaaaaaaaaaaaaaa"|Content-Length: 24||{"note":"","vote":"yes"} => HTTP/1.1 412 Precondition Failed|Content-Type: application/json|Content-Length: 32|Connection: close||{"name":"Mismatch","refused":49}
+POST /requests/1/review HTTP/1.1|Desk-Token: rita-token-000002|Desk-Key: k1|If-Match: "e4c220d8dab039abb3652b6fa6a553ed2263ecd9bc8c21da0d6b8015b6e0d14c"|Content-Length: 24||{"note":"","vote":"yes"} => HTTP/1.1 200 OK|Content-Type: application/json|Content-Length: 47|Connection: close||{"reply":"reviewed","request":1,"state":"open"}
+POST /requests/1/review HTTP/1.1|Desk-Token: rita-token-000002|Desk-Key: k1|If-Match: "e4c220d8dab039abb3652b6fa6a553ed2263ecd9bc8c21da0d6b8015b6e0d14c"|Content-Length: 24||{"note":"","vote":"yes"} => HTTP/1.1 200 OK|Content-Type: application/json|Content-Length: 47|Connection: close||{"reply":"reviewed","request":1,"state":"open"}
+POST /requests/1/review HTTP/1.1|Desk-Token: rita-token-000002|Desk-Key: k1|If-Match: "aaaaaaaaaaaaaaaaaaaaaaaaaaaaaaaaaaaaaaaaaaaaaaaaaaaaaaaaaaaaaaaa"|Content-Length: 24||{"note":"","vote":"yes"} => HTTP/1.1 412 Precondition Failed|Content-Type: application/json|Content-Length: 32|Connection: close||{"name":"Mismatch","refused":49}
+POST /requests/2/review HTTP/1.1|Desk-Token: rita-token-000002|Desk-Key: k2|If-Match: "e4c220d8dab039abb3652b6fa6a553ed2263ecd9bc8c21da0d6b8015b6e0d14c"|Content-Length: 24||{"note":"","vote":"yes"} => HTTP/1.1 404 Not Found|Content-Type: application/json|Content-Length: 37|Connection: close||{"name":"NoSuchRequest","refused":23}
+POST /dbx/digests HTTP/1.1|Desk-Token: olga-token-000005|Desk-Key: k1|Content-Length: 77||{"digest":"aaaaaaaaaaaaaaaaaaaaaaaaaaaaaaaaaaaaaaaaaaaaaaaaaaaaaaaaaaaaaaaa"} => HTTP/1.1 200 OK|Content-Type: application/json|Content-Length: 33|Connection: close||{"proposal":1,"reply":"proposed"}
+POST /proposals/1/confirm HTTP/1.1|Desk-Token: ann-token-0000001|Desk-Key: k2|If-Match: "bbbbbbbbbbbbbbbbbbbbbbbbbbbbbbbbbbbbbbbbbbbbbbbbbbbbbbbbbbbbbbbb"|Content-Length: 0|| => HTTP/1.1 403 Forbidden|Content-Type: application/json|Content-Length: 35|Connection: close||{"name":"NotYourRole","refused":21}
+POST /proposals/1/confirm HTTP/1.1|Desk-Token: olga-token-000005|Desk-Key: k2|If-Match: "4cf5d45f96f84a529203594417d2f4214c9ef2ea2d7094cb7cd6e8a36587b5eb"|Content-Length: 0|| => HTTP/1.1 409 Conflict|Content-Type: application/json|Content-Length: 35|Connection: close||{"name":"OwnProposal","refused":38}
+POST /proposals/1/confirm HTTP/1.1|Desk-Token: otto-token-000006|Desk-Key: k1|If-Match: "bbbbbbbbbbbbbbbbbbbbbbbbbbbbbbbbbbbbbbbbbbbbbbbbbbbbbbbbbbbbbbbb"|Content-Length: 0|| => HTTP/1.1 412 Precondition Failed|Content-Type: application/json|Content-Length: 32|Connection: close||{"name":"Mismatch","refused":49}
+POST /proposals/1/confirm HTTP/1.1|Desk-Token: otto-token-000006|Desk-Key: k1|If-Match: "4cf5d45f96f84a529203594417d2f4214c9ef2ea2d7094cb7cd6e8a36587b5eb"|Content-Length: 0|| => HTTP/1.1 200 OK|Content-Type: application/json|Content-Length: 89|Connection: close||{"certificates":0,"components":0,"digests":1,"passed":0,"proposal":1,"reply":"confirmed"}
+POST /proposals/1/confirm HTTP/1.1|Desk-Token: otto-token-000006|Desk-Key: k1|If-Match: "4cf5d45f96f84a529203594417d2f4214c9ef2ea2d7094cb7cd6e8a36587b5eb"|Content-Length: 0|| => HTTP/1.1 200 OK|Content-Type: application/json|Content-Length: 89|Connection: close||{"certificates":0,"components":0,"digests":1,"passed":0,"proposal":1,"reply":"confirmed"}"#;
 
 /// The person of a line.
 fn person(alloc: Global, line: &str) -> Option<Person> {
@@ -77,9 +95,9 @@ fn founded(alloc: Global) -> Option<Served> {
 }
 
 /// The texts of the rows on one side of their arrows.
-fn sides(alloc: Global, is_request: bool) -> Option<Vec<Octets>> {
+fn sides(alloc: Global, rows: &str, is_request: bool) -> Option<Vec<Octets>> {
     let mut texts = Vec::new(alloc);
-    for row in ROWS.lines() {
+    for row in rows.lines() {
         let (request, response) = row.split_once(" => ")?;
         let side = if is_request { request } else { response };
         texts.push(Octets::new(bytes_of(alloc, side).ok()?)).ok()?;
@@ -122,6 +140,7 @@ fn served_each<D: Answering>(alloc: Global, desk: &mut D, inputs: &[Octets]) -> 
 fn level_asked(alloc: Global, line: &str) -> Option<Asked> {
     Some(Asked {
         person: person(alloc, line)?,
+        tag: None,
         task: Task::Read(Reading::Level),
     })
 }
@@ -141,9 +160,9 @@ fn level<S: Alter + Drop>(alloc: Global, desk: &mut OpenDesk<S>, line: &str) -> 
 }
 
 /// Whether the desk serves each request of the rows with its response.
-fn serves<D: Answering>(alloc: Global, desk: &mut D) -> Option<bool> {
-    let inputs = sides(alloc, true)?;
-    let wanted = joined(alloc, &sides(alloc, false)?).ok()?;
+fn serves<D: Answering>(alloc: Global, desk: &mut D, rows: &str) -> Option<bool> {
+    let inputs = sides(alloc, rows, true)?;
+    let wanted = joined(alloc, &sides(alloc, rows, false)?).ok()?;
     let told = served_each(alloc, desk, &inputs)?;
     Some(told.as_slice() == wanted.as_slice())
 }
@@ -158,7 +177,7 @@ fn has_level<S: Alter + Drop>(alloc: Global, desk: &mut OpenDesk<S>) -> Option<b
 /// Whether a desk in memory serves the requests, and has the level after them.
 fn answers(alloc: Global) -> Option<(bool, bool)> {
     let mut desk: Served = founded(alloc)?;
-    let is_served = serves(alloc, &mut desk)?;
+    let is_served = serves(alloc, &mut desk, ROWS)?;
     let is_level = has_level(alloc, &mut desk)?;
     Some((is_served, is_level))
 }
@@ -168,5 +187,18 @@ fn requests_are_served_one_after_another(rt: HostRuntime) -> Result<(), Fail> {
     let (is_served, is_level) = answers(rt.alloc()).ok_or("a desk")?;
     assert!(rt; is_served, "the responses");
     assert!(rt; is_level, "the level");
+    Ok(())
+}
+
+/// Whether a desk in memory serves the requests with If-Match.
+fn answers_conditions(alloc: Global) -> Option<bool> {
+    let mut desk: Served = founded(alloc)?;
+    serves(alloc, &mut desk, CONDITIONS)
+}
+
+#[test]
+fn commands_with_a_tag_are_about_it(rt: HostRuntime) -> Result<(), Fail> {
+    let is_served = answers_conditions(rt.alloc()).ok_or("a desk")?;
+    assert!(rt; is_served, "the responses");
     Ok(())
 }

@@ -6,7 +6,7 @@ use Rattle.cli_opening.proofs.EndingLemmas.{done_of, either_row, first_keeps, le
 use Rattle.cli_files.proofs.working.add_person.Goals as goal
 
 pub returns-clause-added : goal.returns-clause-added
-returns-clause-added g c = unopened_keeps g.W.Write.contents _ _ c.on_desk.result c.on_desk.ensures.did
+returns-clause-added g c = unopened_keeps g.W.Write.contents _ _ c.on_desk.ensures.did
 
 pub returns-clause-done : goal.returns-clause-done
 returns-clause-done g c = done_of (λ outcome. outcome ≡ Done) _ c.on_desk.result.work c.on_desk.ensures.left

@@ -9,6 +9,7 @@ returns-in-Ok-clause-ran g c = inl (record {
   left = c.in-Ok.worked.desk;
   ran = rw c.close_after.ensures.work c.in-Ok.ensures.ran;
   ended = c.close_after.ensures.closed;
+  kept = c.close_after.ensures.left;
 })
 
 pub returns-in-Ok-clause-done : goal.returns-in-Ok-clause-done
@@ -29,7 +30,8 @@ pub returns-in-Err-clause-ran : goal.returns-in-Err-clause-ran
 returns-in-Err-clause-ran g c = inr (record {
   conn = c.in-Err.conn;
   refusal = c.in-Err.refusal;
-  told = c.without_desk.ensures;
+  told = c.without_desk.ensures.ending;
+  kept = rw c.without_desk.ensures.left c.unclosed.ensures;
   named = c.in-Err.ensures.named;
   silent = keeps_same g.W.Write.contents _ _ c.in-Err.ensures.silent;
   stopped = c.in-Err.ensures.lost;
@@ -37,13 +39,13 @@ returns-in-Err-clause-ran g c = inr (record {
 })
 
 pub returns-in-Err-clause-done : goal.returns-in-Err-clause-done
-returns-in-Err-clause-done g c = rw c.without_desk.ensures tt
+returns-in-Err-clause-done g c = rw c.without_desk.ensures.work tt
 
 pub returns-in-Err-clause-flushed : goal.returns-in-Err-clause-flushed
-returns-in-Err-clause-flushed g c = rw c.without_desk.ensures tt
+returns-in-Err-clause-flushed g c = rw c.without_desk.ensures.work tt
 
 pub returns-in-Err-clause-closing : goal.returns-in-Err-clause-closing
-returns-in-Err-clause-closing g c = rw c.without_desk.ensures tt
+returns-in-Err-clause-closing g c = rw c.without_desk.ensures.closing tt
 
 pub returns-in-Err-clause-let_go : goal.returns-in-Err-clause-let_go
-returns-in-Err-clause-let_go g c = rw c.without_desk.ensures (λ lasting. refl)
+returns-in-Err-clause-let_go g c = rw c.without_desk.ensures.work (λ lasting. c.without_desk.ensures.closing)

@@ -19,10 +19,11 @@ returns-else-has_owner-clause-followed g c = inl (record {
   told = c.close_after.ensures.work ∙ ap Err c.from.ensures;
   silent = Keeps-refl _;
   ended = c.close_after.ensures.closed;
+  kept = c.close_after.ensures.left;
 })
 
 pub returns-else-has_owner-clause-owner : goal.returns-else-has_owner-clause-owner
-returns-else-has_owner-clause-owner g c = rw c.close_after.ensures.work (λ owner. (refl, refl))
+returns-else-has_owner-clause-owner g c = rw c.close_after.ensures.work (λ owner. (refl, refl, refl))
 
 pub returns-else-has_owner-clause-let_go : goal.returns-else-has_owner-clause-let_go
 returns-else-has_owner-clause-let_go g c = rw c.close_after.ensures.work c.close_after.ensures.let_go

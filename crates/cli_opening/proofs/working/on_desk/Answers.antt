@@ -1,46 +1,20 @@
-use Rattle.std.proofs.Common.{inl, inr, refl}
-use Rattle.cli_lines.specs.Faults.{IsRow}
-use Rattle.cli_opening.specs.Faults.{IsOpeningRefusal}
-use Rattle.cli_opening.proofs.EndingLemmas.{also, never_of_opening}
+use Rattle.cli_opening.proofs.EndingLemmas.{some_rest}
 use Rattle.cli_opening.proofs.working.on_desk.Goals as goal
 
--- the desk was opened
+pub returns-clause-did : goal.returns-clause-did
+returns-clause-did g c = rw c.ending.ensures (some_rest g.S.Start _ _ _ _ c.work_on_desk.ensures.did)
 
-pub returns-in-Ok-clause-did : goal.returns-in-Ok-clause-did
-returns-in-Ok-clause-did g c =
-    inr (record { desk = c.in-Ok.desk; opened = c.in-Ok.ensures.opened; done = c.work_at.ensures.did })
+pub returns-clause-left : goal.returns-clause-left
+returns-clause-left g c = rw c.ending.ensures c.work_on_desk.ensures.left
 
-pub returns-in-Ok-clause-left : goal.returns-in-Ok-clause-left
-returns-in-Ok-clause-left g c = c.work_at.ensures.left
+pub returns-clause-named : goal.returns-clause-named
+returns-clause-named g c = rw c.ending.ensures c.work_on_desk.ensures.named
 
-pub returns-in-Ok-clause-named : goal.returns-in-Ok-clause-named
-returns-in-Ok-clause-named g c = also (IsRow IsOpeningRefusal) _ c.work_at.result.work c.work_at.ensures.named
+pub returns-clause-first : goal.returns-clause-first
+returns-clause-first g c = rw c.ending.ensures c.work_on_desk.ensures.first
 
-pub returns-in-Ok-clause-first : goal.returns-in-Ok-clause-first
-returns-in-Ok-clause-first g c = never_of_opening _ c.work_at.result.work c.work_at.ensures.apart
+pub returns-clause-closing : goal.returns-clause-closing
+returns-clause-closing g c = rw c.ending.ensures c.work_on_desk.ensures.closing
 
-pub returns-in-Ok-clause-closing : goal.returns-in-Ok-clause-closing
-returns-in-Ok-clause-closing g c = c.work_at.ensures.closing
-
-pub returns-in-Ok-clause-let_go : goal.returns-in-Ok-clause-let_go
-returns-in-Ok-clause-let_go g c = c.work_at.ensures.let_go
-
--- no desk was opened
-
-pub returns-in-Err-clause-did : goal.returns-in-Err-clause-did
-returns-in-Err-clause-did g c = inl ((c.in-Err.refusal, c.in-Err.ensures.named, c.without_desk.ensures), refl)
-
-pub returns-in-Err-clause-left : goal.returns-in-Err-clause-left
-returns-in-Err-clause-left g c = rw c.without_desk.ensures tt
-
-pub returns-in-Err-clause-named : goal.returns-in-Err-clause-named
-returns-in-Err-clause-named g c = rw c.without_desk.ensures (inl (refl, c.in-Err.ensures.named))
-
-pub returns-in-Err-clause-first : goal.returns-in-Err-clause-first
-returns-in-Err-clause-first g c = rw c.without_desk.ensures (λ opening. (refl, refl))
-
-pub returns-in-Err-clause-closing : goal.returns-in-Err-clause-closing
-returns-in-Err-clause-closing g c = rw c.without_desk.ensures tt
-
-pub returns-in-Err-clause-let_go : goal.returns-in-Err-clause-let_go
-returns-in-Err-clause-let_go g c = rw c.without_desk.ensures (λ lasting. refl)
+pub returns-clause-let_go : goal.returns-clause-let_go
+returns-clause-let_go g c = rw c.ending.ensures c.work_on_desk.ensures.let_go

@@ -5,6 +5,7 @@ returns-clause-did g c = record {
   left = c.work-desk.result.desk;
   done = rw c.close_after.ensures.work c.work-desk.ensures.did;
   ended = c.close_after.ensures.closed;
+  kept = c.close_after.ensures.left;
 }
 
 pub returns-clause-left : goal.returns-clause-left

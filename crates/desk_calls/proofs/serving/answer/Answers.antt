@@ -1,56 +1,19 @@
-use Rattle.std.proofs.Common.{inl, refl}
-use Rattle.desk_calls.specs.Answers.{AnswersTask, IsPerson}
-use Rattle.desk_calls.proofs.AnswerLemmas.{closed_as, closed_read, closed_told, serves_as, serves_read, serves_told}
+use Rattle.std.proofs.Common.{sym, subst, ◌∙◌}
+use Rattle.desk_calls.specs.Tags.{is_mismatch}
+use Rattle.desk_calls.proofs.MatchLemmas.{serves_task, shut_task}
 use Rattle.desk_calls.proofs.serving.answer.Goals as goal
 
-pub returns-in-Read-clause-served : goal.returns-in-Read-clause-served
-returns-in-Read-clause-served g c clean owner cs was =
-    serves_as (g.D.Answering.shows c.show.new.desk owner) (g.D.Answering.failed c.show.new.desk) cs (λ t. AnswersTask owner cs c.args.call.person t) c.args.call.task _ c.show.result c.in-Read.is
-    (c.show.ensures.served clean owner cs was)
+pub returns-clause-served : goal.returns-clause-served
+returns-clause-served g c clean owner cs was =
+    let before = c.answer_task.ensures.before clean in
+    serves_task (g.D.Answering.shows c.answer_task.new.desk owner) (g.D.Answering.failed c.answer_task.new.desk) owner cs c.args.call.person c.args.call.task (is_mismatch cs c.args.call)
+    c.answer_task.result (sym c.if-is_other.false ∙ c.in-Ok.ensures.given before owner cs was)
+    (c.answer_task.ensures.served clean owner cs (c.in-Ok.ensures.same before (λ e. cc) owner cs was))
 
-pub returns-in-Me-clause-served : goal.returns-in-Me-clause-served
-returns-in-Me-clause-served g c clean owner cs was =
-    let shows = g.D.Answering.shows c.args.desk.now owner in
-    let failed = g.D.Answering.failed c.args.desk.now in
-    serves_as shows failed cs (λ t. AnswersTask owner cs c.args.call.person t) c.args.call.task _ c.introduce.result c.in-Me.is
-    (serves_told shows failed cs (IsPerson c.args.call.person) c.introduce.result (inl c.introduce.ensures) was)
-
-pub returns-in-Image-clause-served : goal.returns-in-Image-clause-served
-returns-in-Image-clause-served g c clean owner cs was =
-    serves_as (g.D.Answering.shows c.answer_image.new.desk owner) (g.D.Answering.failed c.answer_image.new.desk) cs (λ t. AnswersTask owner cs c.args.call.person t) c.args.call.task _ c.answer_image.result c.in-Image.is
-    (c.answer_image.ensures.served clean owner cs was)
-
-pub returns-in-Command-clause-served : goal.returns-in-Command-clause-served
-returns-in-Command-clause-served g c clean owner cs was =
-    serves_as (g.D.Answering.shows c.take.new.desk owner) (g.D.Answering.failed c.take.new.desk) cs (λ t. AnswersTask owner cs c.args.call.person t) c.args.call.task _ c.take.result c.in-Command.is
-    (c.take.ensures.served clean owner cs was)
-
-pub returns-in-Bytes-clause-served : goal.returns-in-Bytes-clause-served
-returns-in-Bytes-clause-served g c clean owner cs was =
-    serves_as (g.D.Answering.shows c.take-in-Bytes.new.desk owner) (g.D.Answering.failed c.take-in-Bytes.new.desk) cs (λ t. AnswersTask owner cs c.args.call.person t) c.args.call.task _ c.take-in-Bytes.result c.in-Bytes.is
-    (serves_read (g.D.Answering.shows c.take-in-Bytes.new.desk owner) (g.D.Answering.failed c.take-in-Bytes.new.desk) cs c.args.call.person.name c.in-Bytes.key _ _ c.take-in-Bytes.result c.command_of.ensures.reads
-    (c.take-in-Bytes.ensures.served clean owner cs was))
-
-pub returns-in-Read-clause-closed : goal.returns-in-Read-clause-closed
-returns-in-Read-clause-closed g c was =
-    let shut = c.show.ensures.closed was in
-    (closed_as (λ t owner cs. AnswersTask owner cs c.args.call.person t) c.args.call.task _ c.show.result c.in-Read.is shut.0, shut.1)
-
-pub returns-in-Me-clause-closed : goal.returns-in-Me-clause-closed
-returns-in-Me-clause-closed g c was =
-    (closed_as (λ t owner cs. AnswersTask owner cs c.args.call.person t) c.args.call.task _ c.introduce.result c.in-Me.is (closed_told (IsPerson c.args.call.person) c.introduce.result (inl c.introduce.ensures)), refl)
-
-pub returns-in-Image-clause-closed : goal.returns-in-Image-clause-closed
-returns-in-Image-clause-closed g c was =
-    let shut = c.answer_image.ensures.closed was in
-    (closed_as (λ t owner cs. AnswersTask owner cs c.args.call.person t) c.args.call.task _ c.answer_image.result c.in-Image.is shut.0, shut.1)
-
-pub returns-in-Command-clause-closed : goal.returns-in-Command-clause-closed
-returns-in-Command-clause-closed g c was =
-    let shut = c.take.ensures.closed was in
-    (closed_as (λ t owner cs. AnswersTask owner cs c.args.call.person t) c.args.call.task _ c.take.result c.in-Command.is shut.0, shut.1)
-
-pub returns-in-Bytes-clause-closed : goal.returns-in-Bytes-clause-closed
-returns-in-Bytes-clause-closed g c was =
-    let shut = c.take-in-Bytes.ensures.closed was in
-    (closed_as (λ t owner cs. AnswersTask owner cs c.args.call.person t) c.args.call.task _ c.take-in-Bytes.result c.in-Bytes.is (closed_read c.args.call.person.name c.in-Bytes.key _ _ c.take-in-Bytes.result c.command_of.ensures.reads shut.0), shut.1)
+pub returns-clause-closed : goal.returns-clause-closed
+returns-clause-closed g c was =
+    let mine = c.in-Ok.ensures.closed was in
+    let shut = c.answer_task.ensures.closed (subst g.D.Answering.failed (sym mine.0) was) in (
+      shut_task c.args.call.person c.args.call.task (λ cs. is_mismatch cs c.args.call) c.answer_task.result (λ cs. sym c.if-is_other.false ∙ mine.1 cs) shut.0,
+      shut.1 ∙ mine.0,
+    )

@@ -3,7 +3,7 @@ use Rattle.std.proofs.Math.Logic.{∥∥₁_map}
 use Rattle.sqlite.specs.Files.{file_state}
 use Rattle.sqlite.specs.State.{HasCleanDisk}
 use Rattle.desk_store.specs.Living.{and_refused}
-use Rattle.desk_store.proofs.FilesLemmas.{IfRefused-weaker, IfUnopened-weaker}
+use Rattle.desk_store.proofs.FilesLemmas.{IfRefused-weaker, IfUnchecked-weaker, IfUnopened-weaker}
 use Rattle.desk_store.proofs.LivingLemmas.{ends_refused}
 use Rattle.desk_store.proofs.RestartLemmas.{refused_leaves}
 use Rattle.desk_store.proofs.restarting.reopen.Goals as goal
@@ -33,3 +33,6 @@ returns-in-Err-clause-again g c = IfRefused-weaker c.unopened.result _ _ (λ lef
 
 pub returns-in-Err-clause-unopened : goal.returns-in-Err-clause-unopened
 returns-in-Err-clause-unopened g c = IfUnopened-weaker c.unopened.result _ _ (λ left holds. holds c.args.files c.in-Err.ensures.unharmed) c.unopened.ensures.unopened
+
+pub returns-in-Err-clause-unchecked : goal.returns-in-Err-clause-unchecked
+returns-in-Err-clause-unchecked g c = IfUnchecked-weaker c.unopened.result _ _ (λ left had. (c.in-Err.left, c.in-Err.ensures.unharmed, had)) c.unopened.ensures.unchecked

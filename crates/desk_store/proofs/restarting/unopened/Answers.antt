@@ -1,7 +1,7 @@
-use Rattle.std.proofs.Common.{◌≡◌, false, sym, ◌∙◌}
+use Rattle.std.proofs.Common.{◌≡◌, false, true, sym, ◌∙◌}
 use Rattle.desk_store.specs.Living.{and_refused}
 use Rattle.desk_store.specs.Remains.{has_store}
-use Rattle.desk_store.proofs.FilesLemmas.{left_holds, outlasts}
+use Rattle.desk_store.proofs.FilesLemmas.{had_store, left_holds, outlasts}
 use Rattle.desk_store.proofs.RestartLemmas.{one_more_life}
 use Rattle.desk_store.proofs.restarting.unopened.Goals as goal
 
@@ -12,3 +12,8 @@ returns-else-has_store-clause-unopened g c files unharmed clean none owner lives
     outlasts g.D.Disk owner (and_refused lives) seen given c.after_stop-files.result c.after_stop-files.ensures.left
     (λ sure image may. one_more_life image owner lives seen
     (left_holds g.D.Disk g.met.D.Disk.seen_may_stay files clean none owner lives seen hold c.args.left unstored unharmed given c.into_files.ensures sure image may))
+
+pub returns-then-has_store-clause-unchecked : goal.returns-then-has_store-clause-unchecked
+returns-then-has_store-clause-unchecked g c =
+    let stored : has_store c.args.left ≡ true = sym c.has_store-has_store.ensures ∙ c.if-has_store.true in
+    had_store g.D.Disk c.args.left stored c.into_files.result c.into_files.ensures c.after_stop-files.result c.after_stop-files.ensures.left

@@ -10,7 +10,8 @@ use Rattle.store_reads.specs.People.{IsOneOf}
 use Rattle.store_reads.specs.Reads.{ReadsTables, listed}
 use Rattle.store_reads.proofs.TellsLemmas.{tells_then}
 use Rattle.desk_exports.specs.Readings.{HoldsShown}
-use Rattle.store_requests.specs.Steps.{ListsFirst}
+use Rattle.store_requests.specs.Choosing.{ListsUpTo}
+use Rattle.store_requests.specs.declared.choice.Choice.TheVariants as choices
 use Rattle.store_requests.proofs.ListingLemmas.{gives_all, gives_nobody}
 use Rattle.store_requests.proofs.TellsLemmas.{tells_of}
 use Rattle.store_requests.proofs.listing.requests_of.Goals as goal
@@ -40,15 +41,15 @@ returns-clause-value g c clean inside =
     let s0 = state g.S.Store c.args.tx.now.conn.now in
     let s1 = state g.S.Store c.reader_of.new.tx.conn.now in
     let s2 = state g.S.Store c.count.new.tx.conn.now in
-    let s3 = state g.S.Store c.list_first.new.tx.conn.now in
+    let s3 = state g.S.Store c.list_after.new.tx.conn.now in
     let c2 : HasCleanDisk s2 = omega (arith, c.in_ok-list.ensures.survives.clean, clean) in
     let c1 : HasCleanDisk s1 = omega (arith, c.in_ok-count.ensures.survives.clean, c2) in
     let first : ReadsTables (λ t. IsOneOf kept t.people → filter (has_name name) t.people ≡ listed found) s0 s1 = c.in_ok-found.ensures.value c1 inside in
     let second : ReadsTables (λ t. n ≡ length t.requests) s1 s2 = c.in_ok-count.ensures.value c2 first.kept.inside in
-    let third : ReadsTables (λ t. ListsFirst reader t n (holds list)) s2 s3 = c.in_ok-list.ensures.value clean second.kept.inside in
+    let third : ReadsTables (λ t. ListsUpTo choices.Shown reader t 0 n n (holds list)) s2 s3 = c.in_ok-list.ensures.value clean second.kept.inside in
     let some : found ≡ Some reader = search (rules, c.in-Some.is) in
-    tells_of s0 s3 (λ t. ((IsOneOf kept t.people → filter (has_name name) t.people ≡ listed found) × (n ≡ length t.requests)) × ListsFirst reader t n (holds list))
+    tells_of s0 s3 (λ t. ((IsOneOf kept t.people → filter (has_name name) t.people ≡ listed found) × (n ≡ length t.requests)) × ListsUpTo choices.Shown reader t 0 n n (holds list))
     (λ cs. IsOneOf kept (people cs) → IsGiven (requests_for cs (callers.Person name)) (Ok list) (HoldsShown holds))
     (λ owner cs h all known. gives_all owner cs name h reader (subst (λ o. filter (has_name name) (people cs) ≡ listed o) some (all.0.0 known)) n all.0.1 holds list all.1)
-    (tells_then s0 s2 s3 (λ t. (IsOneOf kept t.people → filter (has_name name) t.people ≡ listed found) × (n ≡ length t.requests)) (λ t. ListsFirst reader t n (holds list))
+    (tells_then s0 s2 s3 (λ t. (IsOneOf kept t.people → filter (has_name name) t.people ≡ listed found) × (n ≡ length t.requests)) (λ t. ListsUpTo choices.Shown reader t 0 n n (holds list))
     (tells_then s0 s1 s2 (λ t. IsOneOf kept t.people → filter (has_name name) t.people ≡ listed found) (λ t. n ≡ length t.requests) first second) third)

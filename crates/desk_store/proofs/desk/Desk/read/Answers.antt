@@ -53,6 +53,46 @@ returns-in-Impact-clause-refused g c =
     refuses_for g.S.Store c.args.self.now c.show_impact.new.self c.show_impact.result (λ z owner cs. IsShownTo g.L.RequestList.holds owner cs c.args.person z) c.args.reading _ c.in-Impact.is
     c.show_impact.ensures.refused
 
+pub returns-in-RequestsFrom-clause-shown : goal.returns-in-RequestsFrom-clause-shown
+returns-in-RequestsFrom-clause-shown g c =
+    gives_for g.S.Store c.args.self.now c.show_requests_from.new.self c.show_requests_from.result (λ z owner cs. IsShownTo g.L.RequestList.holds owner cs c.args.person z) c.args.reading _ c.in-RequestsFrom.is
+    c.show_requests_from.ensures.shown
+
+pub returns-in-RequestsFrom-clause-refused : goal.returns-in-RequestsFrom-clause-refused
+returns-in-RequestsFrom-clause-refused g c =
+    refuses_for g.S.Store c.args.self.now c.show_requests_from.new.self c.show_requests_from.result (λ z owner cs. IsShownTo g.L.RequestList.holds owner cs c.args.person z) c.args.reading _ c.in-RequestsFrom.is
+    c.show_requests_from.ensures.refused
+
+pub returns-in-ProposalsFrom-clause-shown : goal.returns-in-ProposalsFrom-clause-shown
+returns-in-ProposalsFrom-clause-shown g c =
+    gives_for g.S.Store c.args.self.now c.show_proposals_from.new.self c.show_proposals_from.result (λ z owner cs. IsShownTo g.L.RequestList.holds owner cs c.args.person z) c.args.reading _ c.in-ProposalsFrom.is
+    c.show_proposals_from.ensures.shown
+
+pub returns-in-ProposalsFrom-clause-refused : goal.returns-in-ProposalsFrom-clause-refused
+returns-in-ProposalsFrom-clause-refused g c =
+    refuses_for g.S.Store c.args.self.now c.show_proposals_from.new.self c.show_proposals_from.result (λ z owner cs. IsShownTo g.L.RequestList.holds owner cs c.args.person z) c.args.reading _ c.in-ProposalsFrom.is
+    c.show_proposals_from.ensures.refused
+
+pub returns-in-Waiting-clause-shown : goal.returns-in-Waiting-clause-shown
+returns-in-Waiting-clause-shown g c =
+    gives_for g.S.Store c.args.self.now c.show_waiting.new.self c.show_waiting.result (λ z owner cs. IsShownTo g.L.RequestList.holds owner cs c.args.person z) c.args.reading _ c.in-Waiting.is
+    c.show_waiting.ensures.shown
+
+pub returns-in-Waiting-clause-refused : goal.returns-in-Waiting-clause-refused
+returns-in-Waiting-clause-refused g c =
+    refuses_for g.S.Store c.args.self.now c.show_waiting.new.self c.show_waiting.result (λ z owner cs. IsShownTo g.L.RequestList.holds owner cs c.args.person z) c.args.reading _ c.in-Waiting.is
+    c.show_waiting.ensures.refused
+
+pub returns-in-Changes-clause-shown : goal.returns-in-Changes-clause-shown
+returns-in-Changes-clause-shown g c =
+    gives_for g.S.Store c.args.self.now c.show_changes.new.self c.show_changes.result (λ z owner cs. IsShownTo g.L.RequestList.holds owner cs c.args.person z) c.args.reading _ c.in-Changes.is
+    c.show_changes.ensures.shown
+
+pub returns-in-Changes-clause-refused : goal.returns-in-Changes-clause-refused
+returns-in-Changes-clause-refused g c =
+    refuses_for g.S.Store c.args.self.now c.show_changes.new.self c.show_changes.result (λ z owner cs. IsShownTo g.L.RequestList.holds owner cs c.args.person z) c.args.reading _ c.in-Changes.is
+    c.show_changes.ensures.refused
+
 pub returns-in-Level-clause-shown : goal.returns-in-Level-clause-shown
 returns-in-Level-clause-shown g c =
     gives_for g.S.Store c.args.self.now c.show_export-in-Level.new.self c.show_export-in-Level.result (λ z owner cs. IsShownTo g.L.RequestList.holds owner cs c.args.person z) c.args.reading _ c.in-Level.is
@@ -62,6 +102,11 @@ pub returns-in-Report-clause-shown : goal.returns-in-Report-clause-shown
 returns-in-Report-clause-shown g c =
     gives_for g.S.Store c.args.self.now c.show_report.new.self c.show_report.result (λ z owner cs. IsShownTo g.L.RequestList.holds owner cs c.args.person z) c.args.reading _ c.in-Report.is
     c.show_report.ensures.shown
+
+pub returns-in-Report-clause-refused : goal.returns-in-Report-clause-refused
+returns-in-Report-clause-refused g c =
+    refuses_for g.S.Store c.args.self.now c.show_report.new.self c.show_report.result (λ z owner cs. IsShownTo g.L.RequestList.holds owner cs c.args.person z) c.args.reading _ c.in-Report.is
+    c.show_report.ensures.refused
 
 pub returns-in-Minutes-clause-shown : goal.returns-in-Minutes-clause-shown
 returns-in-Minutes-clause-shown g c =

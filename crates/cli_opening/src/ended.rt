@@ -1,0 +1,45 @@
+//! The end of a subcommand over a desk's file, with what is left of its files.
+ghost use Rattle.std.specs.Prelude.{◌≡◌, Err, None};
+ghost use Rattle.cli_lines.specs.Endings.{unopened};
+ghost use Rattle.cli_lines.specs.Faults.{row_of};
+ghost use Rattle.cli_opening.specs.Leaving.{ending_of};
+
+use crate::left::Left;
+use cli_lines::{Ending, Fault, Outcome};
+use desk_bytes::Refusal;
+use sqlite_disk::Disk;
+
+/// The end of a subcommand over a desk's file, with what is left of its files.
+#[derive(Drop)]
+pub struct Ended<D: Disk> {
+    /// The outcome of its work, or the fault that stopped it.
+    pub work: Result<Outcome, Fault>,
+    /// The fault of closing the desk afterwards.
+    pub closing: Option<Fault>,
+    /// What is left of the desk's files.
+    pub left: Left<D>,
+}
+
+impl<D: Disk + Drop> Ended<D> {
+    /// The end of a subcommand that has no desk to close.
+    pub fn without_desk(refusal: Refusal, left: Left<D>) -> Ended<D>
+        ensures ending { ending_of result ≡ unopened refusal }
+        ensures work { result.work ≡ Err (row_of refusal) }
+        ensures closing { result.closing ≡ None }
+        ensures left { result.left ≡ left }
+    {
+        Ended {
+            work: Err(Fault::from(refusal)),
+            closing: None,
+            left,
+        }
+    }
+
+    /// Drops what is left.
+    pub fn ending(self) -> Ending
+        ensures { result ≡ ending_of self }
+    {
+        let Ended { work, closing, .. } = self;
+        Ending { work, closing }
+    }
+}

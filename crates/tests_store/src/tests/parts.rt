@@ -1,0 +1,93 @@
+//! Lists in parts, what waits, and the number that tells of changes, each read from a line and told in
+//! words.
+use super::line::Line;
+use super::*;
+
+/// The person who is named, and a number.
+fn named(words: &mut Words) -> Option<(Caller, u64)> {
+    let caller = words.caller()?;
+    let number = words.number()?;
+    Some((caller, number))
+}
+
+/// How many requests there are, and the numbers of the first and the last.
+fn put_requests(line: &mut Line, requests: &[ShownRequest]) -> Option<()> {
+    line.number(requests.len() as u64).ok()?;
+    if let Some(first) = requests.first() {
+        line.number(first.number.value()).ok()?;
+    }
+    if let Some(last) = requests.last() {
+        line.number(last.number.value()).ok()?;
+    }
+    Some(())
+}
+
+/// The number of each proposal, and who proposed it.
+fn put_proposals(line: &mut Line, proposals: &[Proposal]) -> Option<()> {
+    for proposal in proposals {
+        line.number(proposal.number.value()).ok()?;
+        line.put(proposal.officer.as_str()).ok()?;
+    }
+    Some(())
+}
+
+/// The requests from a number on.
+pub(super) fn requests_from<S: Alter + Drop>(
+    desk: &mut Desk<S>,
+    words: &mut Words,
+    line: &mut Line,
+) -> Option<()> {
+    let (caller, number) = named(words)?;
+    match desk.requests_from::<Vec<ShownRequest>>(&caller, number) {
+        Ok(requests) => put_requests(line, &requests),
+        Err(refusal) => line.put(refusal.name()).ok(),
+    }
+}
+
+/// The proposals from a number on.
+pub(super) fn proposals_from<S: Alter + Drop>(
+    desk: &mut Desk<S>,
+    words: &mut Words,
+    line: &mut Line,
+) -> Option<()> {
+    let (caller, number) = named(words)?;
+    match desk.proposals_from(&caller, number) {
+        Ok(proposals) => put_proposals(line, &proposals),
+        Err(refusal) => line.put(refusal.name()).ok(),
+    }
+}
+
+/// The number of each request, and then the proposals.
+fn put_waits(line: &mut Line, waits: &Waits<Vec<ShownRequest>>) -> Option<()> {
+    for request in &waits.requests {
+        line.number(request.number.value()).ok()?;
+    }
+    line.put("and").ok()?;
+    put_proposals(line, &waits.proposals)
+}
+
+/// What waits.
+pub(super) fn waiting<S: Alter + Drop>(
+    desk: &mut Desk<S>,
+    words: &mut Words,
+    line: &mut Line,
+) -> Option<()> {
+    let caller = words.caller()?;
+    match desk.waiting::<Vec<ShownRequest>>(&caller) {
+        Ok(waits) => put_waits(line, &waits),
+        Err(refusal) => line.put(refusal.name()).ok(),
+    }
+}
+
+/// The number that tells of changes.
+pub(super) fn changes<S: Alter + Drop>(
+    desk: &mut Desk<S>,
+    words: &mut Words,
+    line: &mut Line,
+) -> Option<()> {
+    let caller = words.caller()?;
+    match desk.changes(&caller) {
+        Ok(number) => line.number(number).ok(),
+        Err(refusal) => line.put(refusal.name()).ok(),
+    }
+}
