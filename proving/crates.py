@@ -1,0 +1,82 @@
+"""The crates of this repository: those that crates.txt lists, what each stands on, its sources."""
+
+from __future__ import annotations
+
+import hashlib
+import os
+
+ROOT = os.path.dirname(os.path.dirname(os.path.realpath(__file__)))
+# The folders of a crate that have its sources.
+PARTS = ("src", "specs", "proofs")
+# The crates that each crate lists.
+Graph = dict[str, list[str]]
+
+
+def folder_of(crate: str) -> str:
+    return f"{ROOT}/crates/{crate}"
+
+
+def listed() -> dict[str, str]:
+    """The lines of crates.txt, by crate."""
+    with open(f"{ROOT}/crates.txt", encoding="utf-8") as text:
+        lines = [line for line in text if ":" in line.partition("#")[0]]
+    return {line.partition(":")[0].split()[0]: line for line in lines}
+
+
+def crates_below(name: str) -> Graph:
+    """The crate and those that it stands on, each after those that it lists: a map to those."""
+    lines = listed()
+    found: Graph = {}
+
+    def add(crate: str) -> None:
+        if crate in lines and crate not in found:
+            libraries = lines[crate].partition("#")[0].partition(":")[2].split()
+            for library in libraries:
+                add(library)
+            found[crate] = [library for library in libraries if library in lines]
+
+    add(name)
+    return found
+
+
+def all_below(crate: str, below: Graph) -> set[str]:
+    found: set[str] = set()
+    for library in below[crate]:
+        found |= {library} | all_below(library, below)
+    return found
+
+
+def is_program(crate: str) -> bool:
+    return os.path.exists(f"{folder_of(crate)}/src/main.rt")
+
+
+def files_of(crate: str) -> list[str]:
+    """The files of the crate's sources, in one order."""
+    return sorted(
+        f"{at}/{name}"
+        for part in PARTS
+        for at, _, names in os.walk(f"{folder_of(crate)}/{part}")
+        for name in names
+    )
+
+
+def lines_of(crate: str) -> int:
+    count = 0
+    for file in files_of(crate):
+        if file.endswith((".rt", ".antt")):
+            with open(file, "rb") as text:
+                count += text.read().count(b"\n")
+    return count
+
+
+def sum_of_files(crate: str) -> str:
+    """The sum of the lines of crates.txt and of the files of the crate and of those below it.
+    Unlike the kit's own sum it is that of the sources alone, and takes no kit."""
+    lines, found = listed(), hashlib.sha256()
+    for name in sorted(crates_below(crate)):
+        found.update(lines[name].encode())
+        for file in files_of(name):
+            with open(file, "rb") as text:
+                part = hashlib.sha256(text.read()).hexdigest()
+            found.update(f"{file.removeprefix(ROOT)} {part}\n".encode())
+    return found.hexdigest()
