@@ -1,84 +1,94 @@
 // The page: who is signed in, which view is shown, and the commands that wait for an answer. The
 // page isn't proved and decides nothing; what it shows is what the desk answered.
 
-import { lostBox, refusalBox } from './act.js';
-import { fill, h, p, quiet, sure } from './dom.js';
-import { historyView } from './history.js';
-import { forgetMinutes } from './kept.js';
-import { forgetKeys, onChange, unanswered } from './keys.js';
-import { listsView } from './lists.js';
-import { proposalView } from './proposal.js';
-import { proposalsView } from './proposals.js';
-import { proposeView } from './propose.js';
-import { reportView } from './report.js';
-import { requestView } from './request.js';
-import { requestsView } from './requests.js';
-import { submitView } from './send.js';
-import { me, role, signIn, signOut, tokenFault } from './session.js';
-import { changed } from './standing.js';
-import { verdictView } from './verdict.js';
-import { beginWaiting, count, endWaiting } from './waiting.js';
-import { whyView } from './why.js';
-import { isNumber } from './words.js';
+import { forgetMinutes } from './desk/calls.js';
+import { forgetKeys, onChange, unanswered } from './desk/journal.js';
+import { me, signIn, signOut, tokenFault } from './desk/session.js';
+import { changed } from './desk/standing.js';
+import { look } from './desk/waiting.js';
+import { readWire } from './formats/wire.js';
+import { isNumber } from './formats/words.js';
+import { lostBox, refusalBox } from './views/act.js';
+import { box, fill, h, p, quiet, strong, sure } from './views/dom.js';
+import { historyView } from './views/history.js';
+import { inboxView } from './views/inbox.js';
+import { listsView } from './views/lists.js';
+import { proposalView } from './views/proposal.js';
+import { proposalsView } from './views/proposals.js';
+import { proposeView } from './views/propose.js';
+import { reportView } from './views/report.js';
+import { requestView } from './views/request.js';
+import { requestsView } from './views/requests.js';
+import { submitView } from './views/submit.js';
+import { verdictView } from './views/verdict.js';
+import { beginWaiting, counts, endWaiting } from './views/waiting.js';
+import { whyView } from './views/why.js';
 
 /** @param {string} id @returns {any} */
 const part = (id) => document.getElementById(id);
 
-/** @type {[string, string, () => boolean][]} the views in the navigation, and for whom they are */
+/** @typedef {(place: HTMLElement, words: string[]) => any} Shows */
+
+/** @type {(one: Shows, all: Shows) => Shows} a view of the one that an address names, or of all */
+const oneOrAll = (one, all) => (place, words) => (isNumber(words[0]) ? one : all)(place, words);
+
+/** @type {Shows} */
+const anyHistory = (place, words) => (words.length > 0 ? whyView : historyView)(place, words);
+
+/** @type {[name: string, title: string, isFor: () => boolean, shows: Shows][]} in the navigation */
 const VIEWS = [
-    ['requests', 'Requests', () => true],
-    ['submit', 'Submit', () => me.submitter],
-    ['proposals', 'Proposals', () => me.officer],
-    ['propose', 'Propose', () => me.officer],
-    ['lists', 'Lists', () => true],
-    ['check', 'Check an image', () => true],
-    ['history', 'History', () => me.officer],
-    ['report', 'Report', () => me.officer],
+    ['inbox', 'For you', () => true, inboxView],
+    ['requests', 'Requests', () => true, oneOrAll(requestView, requestsView)],
+    ['submit', 'Submit', () => me.submitter, submitView],
+    ['proposals', 'Proposals', () => me.officer, oneOrAll(proposalView, proposalsView)],
+    ['propose', 'Propose', () => me.officer, proposeView],
+    ['lists', 'Lists', () => true, listsView],
+    ['check', 'Check an image', () => true, verdictView],
+    ['history', 'History', () => me.officer, anyHistory],
+    ['report', 'Report', () => me.officer, reportView],
 ];
 
-/** @type {Record<string, (place: HTMLElement, words: string[]) => any>} */
-const SHOWS = {
-    requests: (place, words) => (isNumber(words[0]) ? requestView(place, words) : requestsView(place)),
-    submit: submitView,
-    proposals: (place, words) => (isNumber(words[0]) ? proposalView(place, words) : proposalsView(place)),
-    propose: proposeView,
-    lists: listsView,
-    check: verdictView,
-    history: (place, words) => (words.length > 0 ? whyView(place, words) : historyView(place)),
-    report: reportView,
-};
+// Keeps the count of what waits at the link of the first view.
+const tellCount = counts(() => part('views').querySelector('.count'));
+
+// Shows the view anew that is shown: what it reads is read again.
+const showAnew = () => dispatchEvent(new HashChangeEvent('hashchange'));
 
 function show() {
-    const [, name = '', ...words] = location.hash.split('/');
-    const [view, , isFor] = VIEWS.find(([one]) => one === name) ?? VIEWS[0];
     part('sign-in').hidden = me.known;
     part('frame').hidden = !me.known;
     if (!me.known) return;
-    const mine = isFor() ? view : 'requests';
-    fill(
-        part('views'),
-        VIEWS.filter(([, , may]) => may()).map(
-            ([one, text]) => h('a', { href: `#/${one}`, 'aria-current': one === mine ? 'page' : null }, text),
-        ),
-    );
-    part('who').textContent = `${me.name}, ${role()}`;
+    const [, asked, ...words] = location.hash.split('/');
+    const mine = VIEWS.filter(([, , isFor]) => isFor());
+    const [view, , , shows] = mine.find(([name]) => name === asked) ?? VIEWS[0];
+    fill(part('views'), mine.map(([name, title]) => {
+        const current = name === view ? 'page' : null;
+        const count = name === 'inbox' ? h('span', { class: 'count' }) : null;
+        const onclick = () => location.hash === `#/${name}` && showAnew();
+        return h('a', { href: `#/${name}`, 'aria-current': current, onclick }, title, count);
+    }));
+    tellCount();
+    part('who').textContent = `${me.name}, ${me.role}`;
     const place = h('div', { class: 'view' });
     fill(part('main'), place);
     scrollTo(0, 0);
-    SHOWS[mine](place, mine === name ? words : []);
+    shows(place, view === asked ? words : []);
 }
 
 /** How many commands were under way. */
 let under = 0;
 
-/** The commands whose answer is missing, on whatever view the person is. */
+// The commands whose answer is missing, on whatever view the person is.
 function waiting() {
     const lost = [...unanswered].filter((command) => command.state === 'lost');
     const elsewhere = lost.filter((command) => !part('main').contains(command.box));
     fill(part('waiting'), elsewhere.map(lostBox));
-    if (unanswered.size < under && me.known) count();
+    if (unanswered.size < under && me.known) look(true);
     under = unanswered.size;
 }
+
+const NOT_WHOLE = 'A part of this page didn’t come. ';
+const AGAIN = 'Sign in once more; if this comes back, tell the desk’s administrator.';
 
 async function enter(/** @type {Event} */ event) {
     event.preventDefault();
@@ -92,10 +102,11 @@ async function enter(/** @type {Event} */ event) {
     }
     part('enter').disabled = true;
     fill(said, quiet('Asking the desk…'));
-    const answer = await signIn(token);
+    const missing = await readWire();
+    const answer = missing ?? await signIn(token);
     part('enter').disabled = false;
     if (answer) {
-        fill(said, refusalBox(answer));
+        fill(said, missing ? box('care', p(strong(NOT_WHOLE), AGAIN)) : refusalBox(answer));
         return field.focus();
     }
     field.value = '';
@@ -105,21 +116,18 @@ async function enter(/** @type {Event} */ event) {
     return part('main').querySelector('h1')?.focus();
 }
 
+const KEY_LOST = 'A command still waits for its answer. '
+    + 'Its key is lost with this page’s memory, so it can’t be asked for again.';
+
 async function leave() {
-    if (unanswered.size > 0 && !(await sure(
-        'Sign out now?',
-        [
-            p('A command still waits for its answer. Its key is lost with this page’s memory, so it can’t be asked for again.'),
-        ],
-        'Sign out',
-        'Stay',
-    ))) return;
+    const waits = unanswered.size > 0;
+    if (waits && !(await sure('Sign out now?', [p(KEY_LOST)], 'Sign out', 'Stay'))) return;
     forget();
     history.replaceState(null, '', location.pathname);
     part('token').focus();
 }
 
-/** Signs out: nothing of the person is left on the page or in its memory. */
+// Signs out: nothing of the person is left on the page or in its memory.
 function forget() {
     forgetKeys();
     signOut();
@@ -127,7 +135,8 @@ function forget() {
     forgetMinutes();
     endWaiting();
     for (const open of document.querySelectorAll('dialog')) open.close();
-    for (const place of ['main', 'elsewhere', 'waiting', 'views', 'who', 'sign-in-answer']) fill(part(place));
+    const places = ['main', 'elsewhere', 'waiting', 'views', 'who', 'sign-in-answer'];
+    for (const place of places) fill(part(place));
     part('token').value = '';
     part('enter').disabled = false;
     show();
@@ -156,5 +165,6 @@ part('skip').addEventListener('click', (/** @type {Event} */ event) => {
     event.preventDefault();
     part(me.known ? 'main' : 'token').focus();
 });
+readWire();
 show();
 part('token').focus();

@@ -1,0 +1,192 @@
+// What waits for the person who is signed in, and what came of their own requests since then. It is
+// kept until the sign-out; the desk's small answer tells whether there is anything to read.
+
+import { get } from './api.js';
+import { me } from './session.js';
+import { timeOf } from '../formats/sentences.js';
+
+/** @typedef {import('./types.js').Answer} Answer */
+/** @typedef {import('./types.js').Request} Request */
+/** @typedef {import('./types.js').ProposalRow} ProposalRow */
+/** @typedef {{ requests: Request[], proposals: ProposalRow[] }} Waiting as GET /waiting has it */
+/** @typedef {ReturnType<typeof nothing>} Inbox */
+
+/** How many of the newest calls are read for when proposals were made. */
+const NEWEST = 500;
+
+const nothing = () => ({
+    /** Whether the desk is older than its routes /changes and /waiting. */
+    isOld: false,
+    /** The desk's number of changes when it was read; -1 before, and where it has none. */
+    changes: -1,
+    /** @type {Waiting | null} null until it was read */
+    waiting: null,
+    /** @type {Map<number, string>} how the person's own requests were that were under way */
+    own: new Map(),
+    /** @type {Map<number, Request>} those of them that changed, and weren't looked at since */
+    changed: new Map(),
+    /** @type {Map<number, string>} when proposals were made, by the clocks of their officers */
+    times: new Map(),
+    /** The number of the last call that was read for that. */
+    timed: 0,
+});
+
+let mine = nothing();
+/** @type {Promise<Answer> | null} the look under way */
+let running = null;
+/** @type {Promise<Answer> | null} the one that begins behind it */
+let next = null;
+/** @type {Set<() => void>} */
+const listeners = new Set();
+
+// Forgets all of it: the person signs out.
+export function forgetWaiting() {
+    mine = nothing();
+    [running, next] = [null, null];
+    tell();
+}
+
+/** @param {() => void} listener is called as what is kept changes @returns {() => void} ends it */
+export function listen(listener) {
+    listeners.add(listener);
+    return () => listeners.delete(listener);
+}
+
+const tell = () => [...listeners].forEach((listener) => listener());
+
+/**
+ * Looks once; a look under way serves too.
+ * @param {boolean} [anew] not where it may have begun before what is looked for
+ * @returns {Promise<Answer>} a fault, or a value once what is kept is the desk's
+ */
+export function look(anew = false) {
+    if (running && !anew) return running;
+    if (running) {
+        next ??= running.then(() => {
+            next = null;
+            return look();
+        });
+        return next;
+    }
+    const run = readInto(mine).finally(() => {
+        if (running === run) running = null;
+    });
+    running = run;
+    return run;
+}
+
+/** @param {Answer} answer */
+const isNoRoute = (answer) => answer.kind === 'refused' && answer.name === 'NoRoute';
+
+/** @param {Inbox} into @returns {Promise<Answer>} */
+async function readInto(into) {
+    const told = into.isOld ? null : await get('/changes');
+    into.isOld ||= told !== null && isNoRoute(told);
+    if (!into.isOld && told?.kind !== 'value') return told ?? { kind: 'lost', status: 0 };
+    const changes = told?.kind === 'value' ? told.value.changes : -1;
+    if (changes >= 0 && changes === into.changes) return { kind: 'value', value: into };
+    const answer = into.isOld ? await ofLists() : await get('/waiting');
+    if (answer.kind !== 'value') return answer;
+    const fault = await takeOwn(into, answer.value.requests.filter(isOwn));
+    if (fault) return fault;
+    Object.assign(into, { changes, waiting: answer.value });
+    if (into === mine) tell();
+    return { kind: 'value', value: into };
+}
+
+// What GET /waiting would give, of the lists of an older desk.
+/** @returns {Promise<import('./types.js').Answer<Waiting>>} */
+async function ofLists() {
+    const answer = await get(me.officer ? '/proposals' : '/requests');
+    if (answer.kind !== 'value') return answer;
+    /** @type {ProposalRow[]} */
+    const proposals = me.officer ? answer.value : [];
+    const others = proposals.filter(({ officer }) => officer !== me.name);
+    const value = {
+        requests: me.officer ? [] : answer.value.filter(waits),
+        proposals: others.filter(({ state }) => state === 'open'),
+    };
+    return { kind: 'value', value };
+}
+
+/** @param {Request} request */
+function waits(request) {
+    const { state, votes } = request;
+    if (isOwn(request)) return state === 'open' || state === 'approved';
+    if (me.signer) return state === 'approved';
+    return me.reviewer && state === 'open' && !votes.some(({ reviewer }) => reviewer === me.name);
+}
+
+/** @param {Request} request */
+const isOwn = ({ submitter }) => me.submitter && submitter === me.name;
+
+/** @param {Request} request */
+function howOf({ state, votes }) {
+    return `${state} ${votes.map(({ reviewer, vote }) => reviewer + vote)}`;
+}
+
+// Takes the person's own requests that are under way, and reads those that are so no more.
+/** @param {Inbox} into @param {Request[]} own @returns {Promise<Answer | null>} a fault */
+async function takeOwn(into, own) {
+    const numbers = new Set(own.map(({ number }) => number));
+    const left = [...into.own.keys()].filter((number) => !numbers.has(number));
+    const ended = await Promise.all(left.map((number) => get(`/requests/${number}`)));
+    const fault = ended.find(({ kind }) => kind !== 'value');
+    if (fault) return fault;
+    const values = ended.map((answer) => (answer.kind === 'value' ? answer.value : null));
+    for (const request of [...own, ...values]) {
+        const how = howOf(request);
+        const before = into.own.get(request.number) ?? (into.waiting ? 'open ' : how);
+        // (its submitter alone withdraws it)
+        if (request.state === 'withdrawn') into.changed.delete(request.number);
+        else if (how !== before) into.changed.set(request.number, request);
+    }
+    into.own = new Map(own.map((request) => [request.number, howOf(request)]));
+    return null;
+}
+
+// The person looks at this request: it counts as changed no more.
+/** @param {Request} request */
+export function seen(request) {
+    const { number } = request;
+    if (mine.own.has(number)) mine.own.set(number, howOf(request));
+    if (mine.changed.delete(number)) tell();
+}
+
+// What waits, what changed and what is under way; null until it was read.
+export function inbox() {
+    const { waiting, changed } = mine;
+    if (!waiting) return null;
+    const own = waiting.requests.filter(isOwn);
+    return {
+        requests: waiting.requests.filter((request) => !isOwn(request)),
+        proposals: waiting.proposals,
+        changed: [...changed.values()],
+        under: own.filter(({ number }) => !changed.has(number)),
+    };
+}
+
+// How many wait for the person or changed: the one count that is shown anywhere.
+export function count() {
+    const now = inbox();
+    return now ? now.requests.length + now.proposals.length + now.changed.length : 0;
+}
+
+// When proposals were made, by the newest calls; what is known where no more can be read.
+/** @returns {Promise<Map<number, string>>} */
+export async function times() {
+    const into = mine;
+    const { changes, proposals } = { changes: into.changes, proposals: into.waiting?.proposals };
+    const isKnown = proposals?.every(({ number }) => into.times.has(number)) ?? true;
+    if (isKnown || changes <= into.timed) return into.times;
+    const first = Math.max(1, into.timed + 1, changes - NEWEST + 1);
+    const answer = await get(`/minutes/${first}`, 'text');
+    if (answer.kind !== 'value') return into.times;
+    for (const line of answer.value.split('\n').slice(0, -1)) {
+        const [, , key, , reply] = line.split('\t');
+        const made = /^proposed ([0-9]+)$/.exec(reply ?? '');
+        if (made) into.times.set(Number(made[1]), timeOf(key));
+    }
+    into.timed = changes;
+    return into.times;
+}

@@ -1,0 +1,79 @@
+// An import, with a look at what is in the file before it is proposed.
+
+import { refusalBox } from './act.js';
+import { formPart, known, propose, settled } from './asking.js';
+import {
+    answers, box, buttons, faults, field, fill, h, p, status, strong, submitButton,
+} from './dom.js';
+import { fileField } from './files.js';
+import { STAMP_FAULT, isStamp, numberLine } from './numbers.js';
+import { stampDoubts, stampOf } from '../desk/generations.js';
+import { look } from '../desk/imports.js';
+import { Command } from '../desk/journal.js';
+
+/** @typedef {import('../desk/imports.js').Look} Look */
+
+/** The longest file that is looked at. */
+const MOST = 67108864;
+
+const HINT = 'Signature lists, as a published dbx; the desk’s CSV; a level’s text; '
+    + 'or Microsoft’s dbx_info. Choose it, or drop it here.';
+const STAMP_HINT = 'The date and two digits. '
+    + 'An import that raises a generation needs one above the level’s.';
+
+/** @param {Look} found */
+function lookBox({ fault, kind, lines }) {
+    return box(
+        fault ? 'bad' : 'note',
+        p(strong(`${kind}.`), fault ? ` ${fault}` : ''),
+        h('ul', {}, lines.map((line) => h('li', {}, line))),
+    );
+}
+
+export function importForm() {
+    const said = answers();
+    const inside = status();
+    const fault = faults();
+    const stamp = numberLine();
+    const stampField = field('Stamp', stamp, STAMP_HINT);
+    stampField.hidden = true;
+    /** @type {{ look: Look, name: string, present: number } | null} */
+    let found = null;
+    let turn = 0;
+    const { place, input } = fileField('File', HINT, async (chosen) => {
+        const mine = ++turn;
+        found = null;
+        stampField.hidden = true;
+        fault.textContent = '';
+        fill(inside);
+        fill(said);
+        if (!chosen) return;
+        const all = await known();
+        if (mine !== turn) return;
+        if ('kind' in all) return fill(inside, refusalBox(all));
+        const seen = await look(chosen.bytes, all);
+        if (mine !== turn) return;
+        const present = all.now.level.stamp;
+        found = { look: seen, name: chosen.file.name, present };
+        stampField.hidden = !seen.asksStamp;
+        stamp.value ||= String(stampOf(new Date(), present));
+        return fill(inside, lookBox(seen));
+    }, MOST);
+    const go = submitButton('Propose this import');
+    const submit = async (/** @type {Event} */ event) => {
+        event.preventDefault();
+        if (!found || found.look.fault) {
+            fault.textContent = found ? 'This file can’t be imported.' : 'Choose a file.';
+            return input.focus();
+        }
+        const { look: { asksStamp, raises, doubts, path, body }, name, present } = found;
+        fault.textContent = asksStamp && !isStamp(stamp.value) ? STAMP_FAULT : '';
+        if (fault.textContent) return stamp.focus();
+        const own = asksStamp && raises ? stampDoubts(Number(stamp.value), present) : [];
+        if (!(await settled([...doubts, ...own]))) return undefined;
+        const fields = asksStamp ? { 'Desk-Stamp': stamp.value } : undefined;
+        return propose(new Command(`Import of ${name}`, path, body, fields), said, [go, input]);
+    };
+    const body = [place, inside, stampField, fault, buttons(go)];
+    return formPart('Import revocations', submit, body, said);
+}

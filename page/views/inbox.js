@@ -1,0 +1,175 @@
+// "For you", the first view: what waits for the person, which of their own requests changed, and
+// those that are under way.
+
+import { read } from './act.js';
+import { fill, focusHeading, h, heading, p, quiet } from './dom.js';
+import { named } from './impact.js';
+import { badge, proposalLink, requestLink } from './marks.js';
+import { paged } from './table.js';
+import { me, withYou } from '../desk/session.js';
+import { barredBy, standing } from '../desk/standing.js';
+import { inbox, listen, look, times } from '../desk/waiting.js';
+import { ageWords, counted, voteWords } from '../formats/words.js';
+
+/** @typedef {import('./dom.js').Child} Child */
+/** @typedef {import('../desk/types.js').Request} Request */
+/** @typedef {import('../desk/types.js').ProposalRow} ProposalRow */
+/** @typedef {import('../desk/standing.js').Standing} Standing */
+
+/** What is known besides: the lists of today, and when proposals were made. */
+/** @typedef {{ now: Standing | null, times: Map<number, string> }} Beside */
+
+/** @param {HTMLElement} place */
+export function inboxView(place) {
+    const submit = h('a', { href: '#/submit', class: 'button main' }, 'Submit an image');
+    heading(place, 'For you', me.submitter ? submit : null);
+    const told = h('p', { class: 'unseen', role: 'status' });
+    const lists = h('div', {});
+    place.append(told, lists);
+    /** @type {Beside} */
+    const beside = { now: null, times: new Map() };
+    const parts = partsOf(beside);
+    const show = () => {
+        const all = inbox();
+        if (!all) return;
+        keepingFocus(lists, () => fill(lists, parts.map((part) => part(all))));
+        const { requests, proposals, changed } = all;
+        const waits = counted(requests.length + proposals.length, 'waits', 'wait');
+        const said = `${waits} for you${changed.length > 0 ? `, ${changed.length} changed` : ''}`;
+        if (told.textContent !== said) told.textContent = said;
+    };
+    const more = async () => {
+        const all = inbox();
+        if (!all) return;
+        beside.times = await times();
+        const some = all.requests.length + all.changed.length + all.under.length > 0;
+        const now = some ? await standing() : null;
+        if (now?.kind === 'value') beside.now = now.value;
+        if (place.isConnected) show();
+    };
+    const end = listen(() => {
+        if (!place.isConnected) return end();
+        show();
+        return more();
+    });
+    if (!inbox()) return read(lists, look, () => {});
+    show();
+    more();
+    return look();
+}
+
+// Fills a place anew; a link in it that had the focus has it again, or the heading if it is gone.
+/** @param {HTMLElement} place @param {() => void} make */
+function keepingFocus(place, make) {
+    const focused = document.activeElement;
+    const had = place.contains(focused) ? focused?.getAttribute('href') : undefined;
+    make();
+    if (had === undefined) return;
+    const same = [...place.querySelectorAll('a')].find((one) => one.getAttribute('href') === had);
+    if (same) same.focus({ preventScroll: true });
+    else focusHeading(place);
+}
+
+/** @type {Record<string, string>} what is said where nothing waits, by role */
+const NOTHING = {
+    officer: 'No proposal waits for you.',
+    reviewer: 'No request waits for your vote.',
+    signer: 'No approved request waits for you.',
+};
+
+/**
+ * The parts of the view that the person has, each with a table that keeps its page.
+ * @param {Beside} beside
+ * @returns {((all: NonNullable<ReturnType<typeof inbox>>) => Child)[]}
+ */
+function partsOf(beside) {
+    const empty = NOTHING[me.role] ?? '';
+    const requests = requestTable('Requests, oldest first', empty, beside, false);
+    const proposals = proposalTable(empty, beside);
+    const changed = requestTable('Requests that changed', '', beside, true);
+    const none = 'You have no request under way.';
+    const under = requestTable('Your own requests, oldest first', none, beside, true);
+    return [
+        (all) => {
+            if (me.role === 'submitter') return null;
+            if (!me.officer) return part('Waits for you', requests, all.requests);
+            return part('Waits for you', proposals, all.proposals);
+        },
+        (all) => (all.changed.length > 0
+            ? part('Yours that changed', changed, all.changed, 'Since you signed in.') : null),
+        (all) => (me.submitter ? part('Yours under way', under, all.under) : null),
+    ];
+}
+
+/**
+ * @template T
+ * @param {string} title
+ * @param {{ place: HTMLElement, set: (rows: T[], at?: boolean) => void }} table
+ * @param {T[]} rows
+ * @param {string} [hint]
+ */
+function part(title, table, rows, hint) {
+    table.set(rows, true);
+    const count = h('span', { class: 'count' }, rows.length > 0 ? ` ${rows.length}` : '');
+    const head = h('h2', {}, title, count);
+    return h('section', {}, head, hint ? quiet(hint) : null, table.place);
+}
+
+/** @param {string} caption @param {string} empty @param {Beside} beside @param {boolean} own */
+function requestTable(caption, empty, beside, own) {
+    return paged({
+        caption,
+        kind: 'wide queue',
+        head: ['No', 'Title', own ? 'State' : 'From', 'Votes'],
+        empty,
+        row: (/** @type {Request} */ request) => {
+            const { number, title, submitter, state, votes } = request;
+            const isBarred = beside.now !== null && barredBy(beside.now, request) !== null;
+            const chip = isBarred ? h('span', { class: 'badge rejected' }, 'Barred today') : null;
+            const names = votes.map(({ reviewer }) => reviewer).join(', ');
+            const by = names === '' ? '' : `, by ${names}`;
+            return [
+                ['number', number],
+                ['title', requestLink(number, title), ' ', chip],
+                own ? badge(state) : ['from', withYou(submitter)],
+                `${voteWords(votes, state)}${by}`,
+            ];
+        },
+    });
+}
+
+/** @param {string} empty @param {Beside} beside */
+function proposalTable(empty, beside) {
+    return paged({
+        caption: 'Proposals, oldest first',
+        kind: 'wide queue',
+        head: ['No', 'It names', 'By', 'Proposed'],
+        empty,
+        row: (/** @type {ProposalRow} */ proposal) => [
+            ['number', proposal.number],
+            ['title', proposalLink(proposal.number, named(proposal))],
+            ['from', withYou(proposal.officer)],
+            ['from', ageWords(beside.times.get(proposal.number) ?? '')],
+        ],
+    });
+}
+
+// What waits next for the person who has done with this one, and how many are left; the place fills
+// as it is read.
+/** @param {number} number of a request or a proposal */
+export function nextPart(number) {
+    const place = p();
+    look(true).then(({ kind }) => {
+        const all = inbox();
+        if (kind !== 'value' || !all) return;
+        /** @type {(Request | ProposalRow)[]} */
+        const rows = me.officer ? all.proposals : all.requests;
+        const next = rows.find((row) => row.number > number) ?? rows[0];
+        if (!next) return fill(place, 'Nothing else waits for you.');
+        const link = 'title' in next
+            ? requestLink(next.number, `request ${next.number}, ${next.title}`)
+            : proposalLink(next.number);
+        return fill(place, 'Next: ', link, `; ${counted(rows.length, 'waits', 'wait')} for you.`);
+    });
+    return place;
+}

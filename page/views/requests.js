@@ -1,0 +1,111 @@
+// The queue: the requests that the desk shows the caller, by state, oldest first.
+
+import { read } from './act.js';
+import { field, h, heading, quiet } from './dom.js';
+import { badge, requestLink } from './marks.js';
+import { choices, paged } from './table.js';
+import { listed } from '../desk/lists.js';
+import { me, withYou } from '../desk/session.js';
+import { wire } from '../formats/wire.js';
+import { counted, size, stateChoices, stateCounts, voteWords } from '../formats/words.js';
+
+/** @typedef {import('../desk/types.js').Request} Request */
+
+// The state that the caller works on.
+function first() {
+    return me.signer ? 'approved' : me.reviewer ? 'open' : 'all';
+}
+
+/** @param {HTMLElement} place */
+export function requestsView(place) {
+    const submit = h('a', { href: '#/submit', class: 'button main' }, 'Submit an image');
+    heading(place, 'Requests', me.submitter ? submit : null);
+    const own = me.submitter && !me.reviewer;
+    if (own) place.append(quiet('You see the requests that you submitted.'));
+    /** @type {((some: Request[]) => void) | null} */
+    let shows = null;
+    const show = (/** @type {Request[]} */ some) => {
+        shows ??= queue(place);
+        shows(some);
+    };
+    read(place, () => listed('requests', show), (all) => {
+        show(all);
+        if (!place.isConnected || me.queue.scroll === 0) return;
+        scrollTo(0, me.queue.scroll);
+        me.queue.scroll = 0;
+    });
+}
+
+/** @param {() => boolean} none whether there is no request at all */
+function queueTable(none) {
+    return paged({
+        caption: 'Requests, oldest first',
+        kind: 'wide queue',
+        head: ['No', 'Title', 'From', 'State', 'Votes', 'Size'],
+        empty: () => (none()
+            ? 'There is no request yet.'
+            : 'No request is like this. Choose another state, or change the text.'),
+        turned: (from) => (me.queue.from = from),
+        row: (/** @type {Request} */ request) => [
+            ['number', request.number],
+            ['title', requestLink(request.number, request.title)],
+            ['from', withYou(request.submitter)],
+            badge(request.state),
+            ['from', voteWords(request.votes, request.state)],
+            ['size', size(request.length).replace(/ \(.*/, '')],
+        ],
+    });
+}
+
+// Places the queue, with the filter and the page that it had.
+/** @param {HTMLElement} place @returns {(some: Request[]) => void} what shows these */
+function queue(place) {
+    const last = me.queue;
+    last.state ||= first();
+    /** @type {Request[]} */
+    let requests = [];
+    const table = queueTable(() => requests.length === 0);
+    const again = () => {
+        last.from = 0;
+        show();
+    };
+    const oninput = () => {
+        last.text = search.value;
+        again();
+    };
+    const search = h('input', { type: 'search', autocomplete: 'off', value: last.text, oninput });
+    const all = stateChoices(wire.words.requests);
+    const states = choices('Requests by state', all, (value) => {
+        last.state = value;
+        again();
+        states.focus();
+    });
+    const told = h('p', { class: 'unseen', role: 'status' });
+    const filter = field('Filter by title, name, number or digest', search);
+    place.append(h('div', { class: 'tools' }, states.place, filter), told, table.place);
+    // (where a request is opened from, Back comes back to)
+    table.place.addEventListener('click', ({ target }) => {
+        if (target instanceof HTMLAnchorElement) last.scroll = scrollY;
+    });
+
+    function show() {
+        const text = last.text.trim().toLowerCase();
+        const like = requests.filter((request) => text === '' || matches(request, text));
+        const rows = like.filter(({ state }) => last.state === 'all' || state === last.state);
+        states.show(last.state, stateCounts(like));
+        table.set(rows, last.from);
+        told.textContent = counted(rows.length, 'request');
+    }
+    return (some) => {
+        requests = some;
+        show();
+    };
+}
+
+/** @param {Request} request @param {string} text in lower case */
+function matches({ number, title, submitter, file, digest, signing, returned }, text) {
+    if (String(number) === text || submitter.includes(text)) return true;
+    if (title.toLowerCase().includes(text)) return true;
+    const names = [file, digest, signing, returned ?? ''];
+    return text.length >= 8 && names.some((name) => name.startsWith(text));
+}

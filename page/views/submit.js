@@ -1,0 +1,101 @@
+// A new request: an image is submitted.
+
+import { refusalBox } from './act.js';
+import {
+    answers, box, buttons, faults, field, fill, h, heading, line, p, quiet, status, strong,
+    submitButton,
+} from './dom.js';
+import { fileField } from './files.js';
+import { requestLink } from './marks.js';
+import { barPlace, compared, sent } from './sending.js';
+import { get } from '../desk/api.js';
+import { Command } from '../desk/journal.js';
+import { listed } from '../desk/lists.js';
+import { wire } from '../formats/wire.js';
+import { textFault } from '../formats/words.js';
+
+/** @typedef {import('./files.js').Chosen} Chosen */
+/** @typedef {import('../desk/types.js').Request} Request */
+
+const HINT = 'What it is, as reviewers read it: package, version, architecture.';
+
+/** @param {HTMLElement} place */
+export function submitView(place) {
+    heading(place, 'Submit an image');
+    place.append(p(
+        'Two reviewers then look at it; a signer signs what they approve. ',
+        'The desk keeps facts of the image, not its bytes, so keep the file for them.',
+    ));
+    const title = line({ spellcheck: null, maxlength: wire.limits.title, required: true });
+    const fault = faults();
+    const bar = barPlace();
+    const said = answers();
+    const twice = status();
+    /** @type {Chosen | null} */
+    let file = null;
+    const hint = 'Choose it, or drop it here. At most 128 MiB.';
+    const { place: drop, input } = fileField('EFI image', hint, async (chosen) => {
+        file = chosen;
+        fill(twice);
+        if (!chosen?.sha256) return;
+        const told = await before(chosen.sha256);
+        if (file === chosen) fill(twice, told);
+    });
+    const go = submitButton('Submit');
+    const onsubmit = async (/** @type {Event} */ event) => {
+        event.preventDefault();
+        const text = title.value.trim();
+        const odd = text === '' ? 'Give it a title.' : textFault(text, wire.limits.title, 'title');
+        fault.textContent = odd || (file ? '' : 'Choose the image’s file.');
+        if (odd) return title.focus();
+        if (!file) return input.focus();
+        const { bytes, sha256, file: { name } } = file;
+        const command = new Command(`Submit ${name}`, '/requests', bytes, { 'Desk-Title': text });
+        const reply = await sent(command, bar, said, [go, title, input]);
+        return reply ? arrived(said, reply.request, sha256, form) : undefined;
+    };
+    const named = field('Title', title, `${HINT} Up to ${wire.limits.title} characters of ASCII.`);
+    const body = [named, drop, twice, fault, buttons(go), bar];
+    const form = h('form', { class: 'act', novalidate: true, onsubmit }, body);
+    place.append(form, said);
+}
+
+// Says where the same file was submitted before.
+/** @param {string} sha256 */
+async function before(sha256) {
+    const answer = await listed('requests');
+    if (answer.kind !== 'value') {
+        return [p('Whether the same file was submitted before can’t be read:'), refusalBox(answer)];
+    }
+    /** @type {Request[]} */
+    const requests = answer.value;
+    const one = requests.filter(({ file }) => file === sha256).pop();
+    return one && box(
+        'care',
+        'The same file was submitted before, as ',
+        requestLink(one.number),
+        ` (${one.state}). The desk takes it again as another request.`,
+    );
+}
+
+/**
+ * What came of a submission. The form goes first: one that is still there is soon sent twice.
+ * @param {HTMLElement} said
+ * @param {number} number
+ * @param {string} sha256
+ * @param {HTMLElement} form
+ */
+async function arrived(said, number, sha256, form) {
+    form.hidden = true;
+    fill(said, quiet(`This is request ${number}. Comparing its SHA-256…`));
+    const answer = await get(`/requests/${number}`);
+    const onclick = () => dispatchEvent(new HashChangeEvent('hashchange'));
+    const another = h('a', { href: '#/submit', onclick }, 'submit another image');
+    const open = box(
+        'good',
+        p(strong(`This is request ${number}. `), 'It is open: two reviewers have to agree.'),
+        p(requestLink(number, `Look at request ${number}`), ' or ', another, '.'),
+    );
+    const isRead = answer.kind === 'value';
+    fill(said, open, isRead ? compared(sha256, answer.value.file) : refusalBox(answer));
+}
