@@ -11,16 +11,22 @@ import zipapp
 import zipfile
 
 
-def packed(root: pathlib.Path) -> io.BytesIO:
-    """A zip of the modules and of the page's table of sentences, in the order of their names there;
+# What deskctl doesn't use.
+OTHERS = ("publish", "reader.py", "standby.py", "shim.py")
+
+
+def packed(source: pathlib.Path) -> io.BytesIO:
+    """A zip of the modules and of what they share with the page, in the order of their names there;
     ZipInfo's own time is 1980."""
-    source = root / "client" / "src"
-    files = {path.relative_to(source).as_posix(): path for path in source.rglob("*.py")}
-    files["deskctl/minutes.json"] = root / "page" / "minutes.json"
+    files = {path.relative_to(source): path for path in source.rglob("*.py")}
+    shared = pathlib.Path("kovelamiru", "wire")
+    files |= {shared / path.name: path for path in (source.parent / "page" / "wire").glob("*.json")}
     made = io.BytesIO()
     with zipfile.ZipFile(made, "w") as archive:
         for name in sorted(files):
-            entry = zipfile.ZipInfo(name)
+            if len(name.parts) > 1 and name.parts[1] in OTHERS:
+                continue
+            entry = zipfile.ZipInfo(name.as_posix())
             entry.external_attr = 0o644 << 16
             archive.writestr(entry, files[name].read_bytes())
     made.seek(0)
@@ -29,7 +35,7 @@ def packed(root: pathlib.Path) -> io.BytesIO:
 
 def main() -> None:
     root = pathlib.Path(__file__).resolve().parent.parent
-    zipapp.create_archive(packed(root), sys.argv[1], "/usr/bin/python3 -IS")
+    zipapp.create_archive(packed(root / "python"), sys.argv[1], "/usr/bin/python3 -IS")
 
 
 main()

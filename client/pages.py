@@ -10,19 +10,19 @@ from __future__ import annotations
 import os
 import re
 import sys
-import textwrap
 import time
-from typing import Any, Dict, List, Sequence, Tuple
+from typing import Any, Sequence
 
 sys.dont_write_bytecode = True
-sys.path.insert(0, os.path.join(os.path.dirname(os.path.realpath(__file__)), "src"))
+ROOT = os.path.dirname(os.path.dirname(os.path.realpath(__file__)))
+sys.path[:0] = [os.path.join(ROOT, "python"), os.path.join(ROOT, "packaging")]
 
-from deskctl import VERSION  # noqa: E402
-from deskctl.arguments import OPTIONS, STATUSES  # noqa: E402
-from deskctl.cli import shown_option  # noqa: E402
-from deskctl.commands import COMMANDS  # noqa: E402
+from kovelamiru import VERSION  # noqa: E402
+from kovelamiru.deskctl.arguments import OPTIONS, STATUSES  # noqa: E402
+from kovelamiru.deskctl.cli import shown_option  # noqa: E402
+from kovelamiru.deskctl.commands import COMMANDS  # noqa: E402
+from roff import example, filled, literal, page, roff, terms  # noqa: E402
 
-WIDTH = 78
 ABOUT = """\
 deskctl asks a Kovelamiru desk over HTTP, which the program desk serves: for signatures of boot
 images, for votes, for revocations that one officer proposes and another confirms. It isn't
@@ -117,38 +117,24 @@ IMAGES = """\
 `facts`, `compare`, `revoke` and `list-digest` take what an image is from the desk (POST /facts), or
 from the program desk: where `--program` names one, where no desk is named, and at an older desk.
 `compare` says of a file that it is the one of a request, or the same image with another signature
-table (`digest` or `signing` is equal), or another image, and what differs. `facts` and `compare` say what
-dbx, the level and db say of it today.
+table (`digest` or `signing` is equal), or another image, and what differs. `facts` and `compare`
+say what dbx, the level and db say of it today.
 
 Over which digest a signature is, and by whom it says that it is, deskctl reads in the image's
 certificate table itself: that isn't proved, and no signature is checked. Firmware holds a
 signature against digests of its own algorithm, so a revocation, which is by SHA-256, misses one
 over SHA-384, SHA-512 or SHA-1. Where an image's length is no multiple of 8, firmware looks at
 `digest` of an unsigned one, shim at `signing`."""
-FILES = (
-    (
-        "~/.config/deskctl.conf",
-        "The settings. `XDG_CONFIG_HOME` moves it, `DESKCTL_CONF` names another file.",
-    ),
-    (
-        "~/.local/state/deskctl-watch/",
-        "What `watch` told, a file for each caller. `XDG_STATE_HOME` moves it.",
-    ),
-    (
-        "~/.local/state/deskctl/",
-        (
-            "The journal, a file for each command without an answer, of mode 0600. `XDG_STATE_HOME`"
-            " moves it."
-        ),
-    ),
-)
+FILES = (("~/.config/deskctl.conf",
+          "The settings. `XDG_CONFIG_HOME` moves it, `DESKCTL_CONF` names another file."),
+         ("~/.local/state/deskctl-watch/",
+          "What `watch` told, a file for each caller. `XDG_STATE_HOME` moves it."),
+         ("~/.local/state/deskctl/",
+          ("The journal, a file for each command without an answer, of mode 0600. `XDG_STATE_HOME`"
+           " moves it.")))
 ENVIRONMENT = (
-    (
-        "DESK_URL, DESK_TOKEN_FILE, DESK_CA, DESK_CERT, DESK_CERT_KEY, DESK_NAME, DESK_PROGRAM",
-        "As the options of these names.",
-    ),
-    ("DESK_TOKEN", "Not read."),
-)
+    ("DESK_URL, DESK_TOKEN_FILE, DESK_CA, DESK_CERT, DESK_CERT_KEY, DESK_NAME, DESK_PROGRAM",
+     "As the options of these names."), ("DESK_TOKEN", "Not read."))
 EXAMPLES = """\
 A build system asks for a signature, and waits a day for it:
 
@@ -157,11 +143,13 @@ A build system asks for a signature, and waits a day for it:
     deskctl wait "$number" --timeout 86400
 
 A signing machine signs a copy that nobody else can change, and verifies what it signed before it
-hands it in:
+hands it in. issuer.pem is the CA that issued signer.pem:
 
     cd ~/signing && cp /srv/images/shimx64.efi . && sha256sum shimx64.efi
     sbsign --key KEY --cert signer.pem --output signed.efi shimx64.efi
-    sbverify --cert signer.pem signed.efi && deskctl return 7 signed.efi
+    leaf=$(openssl x509 -in signer.pem -outform DER | sha256sum | cut -d' ' -f1)
+    osslsigncode verify -CAfile issuer.pem -require-leaf-hash "sha256:$leaf" \\
+        -in signed.efi && deskctl return 7 signed.efi
 
 An officer proposes to revoke what was built from a broken source, and another one looks at it and
 confirms it:
@@ -171,126 +159,53 @@ confirms it:
     deskctl proposal 3; deskctl confirm 3
 """
 
-
 # ---- the manual page
 
 
-def plain(text: str) -> str:
-    for mark, name in (("\\", "\\e"), ("~", "\\(ti"), ("^", "\\(ha"), ("`", "\\(ga")):
-        text = text.replace(mark, name)
-    return text
+def worded(words: Sequence[Any]) -> list[tuple[str, str]]:
+    return [(shown_option(names, more) if names[0].startswith("-") else more["metavar"],
+             more["help"] + ".") for names, more in words]
 
 
-def typed(text: str) -> str:
-    """What is typed: hyphens and quotes stay those of ASCII."""
-    return plain(text).replace("-", "\\-").replace("'", "\\(aq")
-
-
-def shielded(line: str) -> str:
-    return "\\&" + line if line[:1] in (".", "'") else line
-
-
-def filled(text: str) -> List[str]:
-    """A paragraph, its `words` in bold."""
-    parts = re.split(r"`([^`]+)`", " ".join(text.split()))
-    text = "".join(
-        plain(part) if at % 2 == 0 else f"\\fB{typed(part)}\\fR" for at, part in enumerate(parts)
-    )
-    return [
-        shielded(line)
-        for line in textwrap.wrap(text, WIDTH, break_long_words=False, break_on_hyphens=False)
-    ]
-
-
-def example(lines: Sequence[str]) -> List[str]:
-    return [".PP", ".nf", ".RS 4"] + [shielded(typed(line)) for line in lines] + [".RE", ".fi"]
-
-
-def roff(text: str) -> List[str]:
-    """Paragraphs, lists, and text that is typed."""
-    found: List[str] = []
-    for part in text.strip("\n").split("\n\n"):
-        lines = part.split("\n")
-        if lines[0].startswith("    "):
-            found += example([line[4:] for line in lines])
-            continue
-        for at, item in enumerate(re.split(r"(?m)^- ", part)):
-            if item.strip():
-                found += [".PP" if at == 0 else ".IP \\(bu 2"] + filled(item)
-    return found
-
-
-def named(rows: Sequence[Tuple[str, str]]) -> List[str]:
-    found: List[str] = []
-    for name, text in rows:
-        found += [".TP", f"\\fB{typed(name)}\\fR"] + filled(text)
-    return found
-
-
-def worded(words: Sequence[Any]) -> List[Tuple[str, str]]:
-    return [
-        (
-            shown_option(names, more) if names[0].startswith("-") else more["metavar"],
-            more["help"] + ".",
-        )
-        for names, more in words
-    ]
-
-
-def commands_part() -> List[str]:
-    found: List[str] = []
+def commands_part() -> list[str]:
+    found: list[str] = []
     for one in COMMANDS:
-        found += [f'.SS "\\fBdeskctl {typed(one.name)}\\fR {typed(one.usage)}"']
-        found += filled(
-            one.does[0].upper() + one.does[1:] + "." + (f" It is for {one.who}." if one.who else "")
-        )
-        found += (
-            named(worded(one.words))
-            + ([".PP"] + filled(one.more) if one.more else [])
-            + example([one.example])
-        )
+        whose = f" It is for {one.who}." if one.who else ""
+        found += [f'.SS "\\fBdeskctl {literal(one.name)}\\fR {literal(one.usage)}"']
+        found += filled(f"{sentence(one.does)}{whose}") + terms(worded(one.words))
+        found += ([".PP"] + filled(one.more) if one.more else []) + example([one.example])
     return found
 
 
-def page() -> str:
-    date = time.strftime(
-        "%Y-%m-%d", time.gmtime(int(os.environ.get("SOURCE_DATE_EPOCH", time.time())))
-    )
+def sentence(text: str) -> str:
+    return text[0].upper() + text[1:] + "."
+
+
+def deskctl_page() -> str:
+    seconds = int(os.environ.get("SOURCE_DATE_EPOCH", time.time()))
     parts = (
-        ("SYNOPSIS", ["\\fBdeskctl\\fR \\fICOMMAND\\fR [\\fIWORD\\fR..] [\\fIOPTION\\fR..]"]),
+        ("SYNOPSIS", ["\\fBdeskctl\\fR [\\fICOMMAND\\fR [\\fIWORD\\fR..]] [\\fIOPTION\\fR..]"]),
         ("DESCRIPTION", roff(ABOUT)),
         ("COMMANDS", commands_part()),
-        ("OPTIONS", named(worded(OPTIONS))),
+        ("OPTIONS", terms(worded(OPTIONS))),
         ("SETTINGS", roff(SETTINGS)),
         ("A COMMAND ACTS ONCE", roff(ONCE)),
         ("QUESTIONS", roff(QUESTIONS)),
         ("IMPORTS", roff(IMPORTS)),
         ("IMAGES AT HAND", roff(IMAGES)),
-        (
-            "EXIT STATUS",
-            named([(str(status), text[0].upper() + text[1:] + ".") for status, text in STATUSES]),
-        ),
-        ("FILES", named(FILES)),
-        ("ENVIRONMENT", named(ENVIRONMENT)),
+        ("EXIT STATUS", terms((str(status), sentence(text)) for status, text in STATUSES)),
+        ("FILES", terms(FILES)),
+        ("ENVIRONMENT", terms(ENVIRONMENT)),
         ("EXAMPLES", roff(EXAMPLES)),
-        ("SEE ALSO", ["desk(1), desk-http(7), sbverify(1), sbsign(1)"]),
-    )
-    found = [
-        ".nr HY 0",
-        ".ad l",
-        f'.TH DESKCTL 1 {date} "Kovelamiru {VERSION}" Kovelamiru',
-        ".SH NAME",
-    ]
-    found.append("deskctl \\- signing requests and revocations at a Secure Boot desk")
-    for title, lines in parts:
-        found += [f'.SH "{title}"'] + lines
-    return re.sub(r"(?m)^(\.S[HS] .*)\n\.PP$", r"\1", "\n".join(found)) + "\n"
+        ("SEE ALSO", ["desk(1), desk-http(7), osslsigncode(1), sbsign(1)"]))
+    return page("deskctl", 1, time.strftime("%Y-%m-%d", time.gmtime(seconds)), VERSION,
+                "signing requests and revocations at a Secure Boot desk", parts)
 
 
 # ---- completions
 
 
-def kind_of(more: Dict[str, Any]) -> str:
+def kind_of(more: dict[str, Any]) -> str:
     """What completes a word: its choices, files, or nothing."""
     if "choices" in more:
         return " ".join(more["choices"])
@@ -299,17 +214,16 @@ def kind_of(more: Dict[str, Any]) -> str:
     return "FILES" if any(name in more.get("metavar", "") for name in ("FILE", "IMAGE")) else ""
 
 
-def split(words: Sequence[Any]) -> Tuple[List[Any], List[Any]]:
+def split(words: Sequence[Any]) -> tuple[list[Any], list[Any]]:
     """The options among words, and those that are named by their place."""
-    return [it for it in words if it[0][0].startswith("-")], [
-        it for it in words if not it[0][0].startswith("-")
-    ]
+    options = [word for word in words if word[0][0].startswith("-")]
+    return options, [word for word in words if word not in options]
 
 
 def bash() -> str:
     names = " ".join(one.name for one in COMMANDS)
     general = " ".join(name for options, _ in OPTIONS for name in options)
-    rows: List[str] = []
+    rows: list[str] = []
     for one in COMMANDS:
         options, places = split(one.words)
         kinds = " ".join(f"'{kind_of(more)}'" for _, more in places) or "''"
@@ -322,13 +236,9 @@ def bash() -> str:
             for name in names_:
                 values.setdefault(name, kind_of(more))
     values["--state"] = "STATES"
-    return BASH.format(
-        names=names,
-        general=general,
-        rows="\n".join(rows),
-        files="|".join(it for it, kind in values.items() if kind == "FILES"),
-        texts="|".join(it for it, kind in values.items() if kind == ""),
-    )
+    return BASH.format(names=names, general=general, rows="\n".join(rows),
+                       files="|".join(it for it, kind in values.items() if kind == "FILES"),
+                       texts="|".join(it for it, kind in values.items() if kind == ""))
 
 
 BASH = """\
@@ -380,7 +290,7 @@ def quoted(text: str) -> str:
     return text.replace("'", "'\\''")
 
 
-def zsh_word(names: Sequence[str], more: Dict[str, Any], place: int) -> str:
+def zsh_word(names: Sequence[str], more: dict[str, Any], place: int) -> str:
     """A word for zsh's _arguments."""
     does = quoted(re.sub(r"([\[\]:])", r"\\\1", more["help"]))
     kind = kind_of(more)
@@ -397,24 +307,16 @@ def zsh() -> str:
     lines = ["#compdef deskctl", "# Completions of deskctl(1) for zsh, written by client/pages.py."]
     lines += ["local context state line", "local -a commands options", "commands=("]
     lines += [f"    '{one.name}:{quoted(one.does)}'" for one in COMMANDS] + [")", "options=("]
-    lines += [f"    {zsh_word(names, more, 0)}" for names, more in OPTIONS] + [
-        "    '--help[show help]'",
-        ")",
-    ]
+    lines += [f"    {zsh_word(names, more, 0)}"
+              for names, more in OPTIONS] + ["    '--help[show help]'", ")"]
     lines += [
-        "_arguments -C $options '1:command:->command' '*::word:->word' && return",
-        "case $state in",
-    ]
+        "_arguments -C $options '1:command:->command' '*::word:->word' && return", "case $state in"]
     lines += [
-        "    command) _describe command commands ;;",
-        "    word)",
-        "        case $words[1] in",
-    ]
+        "    command) _describe command commands ;;", "    word)", "        case $words[1] in"]
     for one in COMMANDS:
         options, places = split(one.words)
         words = [zsh_word(names, more, 0) for names, more in options] + [
-            zsh_word(names, more, at) for at, (names, more) in enumerate(places, 1)
-        ]
+            zsh_word(names, more, at) for at, (names, more) in enumerate(places, 1)]
         lines.append(f"            {one.name}) _arguments $options {' '.join(words)} ;;")
     return "\n".join(lines + ["        esac", "        ;;", "esac"]) + "\n"
 
@@ -422,8 +324,7 @@ def zsh() -> str:
 def fish() -> str:
     lines = [
         "# Completions of deskctl(1) for fish, written by client/pages.py.",
-        "complete -c deskctl -f",
-    ]
+        "complete -c deskctl -f"]
     for one in COMMANDS:
         lines.append(
             f"complete -c deskctl -n __fish_use_subcommand -a {one.name} -d '{fish_text(one.does)}'"
@@ -435,8 +336,7 @@ def fish() -> str:
                 lines.append(f"complete -c deskctl -n '__fish_seen_subcommand_from {one.name}' -F")
             elif kind:
                 lines.append(
-                    f"complete -c deskctl -n '__fish_seen_subcommand_from {one.name}' -a '{kind}'"
-                )
+                    f"complete -c deskctl -n '__fish_seen_subcommand_from {one.name}' -a '{kind}'")
     return "\n".join(lines + [fish_option(names, more, "") for names, more in OPTIONS]) + "\n"
 
 
@@ -444,23 +344,18 @@ def fish_text(text: str) -> str:
     return text.replace("\\", "\\\\").replace("'", "\\'")
 
 
-def fish_option(names: Sequence[str], more: Dict[str, Any], command: str) -> str:
+def fish_option(names: Sequence[str], more: dict[str, Any], command: str) -> str:
     where = f" -n '__fish_seen_subcommand_from {command}'" if command else ""
     kind = kind_of(more)
     value = {"-": "", "": " -x", "FILES": " -r -F"}.get(kind, f" -x -a '{kind}'")
-    shown = " ".join(
-        f"-l {name[2:]}" if name.startswith("--") else f"-s {name[1:]}" for name in names
-    )
+    shown = " ".join(f"-l {name[2:]}" if name.startswith("--") else f"-s {name[1:]}"
+                     for name in names)
     return f"complete -c deskctl{where} {shown}{value} -d '{fish_text(more['help'])}'"
 
 
 def main() -> None:
-    for name, text in (
-        ("deskctl.1", page()),
-        ("deskctl.bash", bash()),
-        ("_deskctl", zsh()),
-        ("deskctl.fish", fish()),
-    ):
+    for name, text in (("deskctl.1", deskctl_page()), ("deskctl.bash", bash()), ("_deskctl", zsh()),
+                       ("deskctl.fish", fish())):
         with open(os.path.join(sys.argv[1], name), "w", encoding="utf-8") as out:
             out.write(text)
 

@@ -1,0 +1,167 @@
+"""The desk as deskctl asks it: tries until an answer comes, and what an answer means."""
+from __future__ import annotations
+
+import http.client
+import io
+import json
+import random
+import ssl
+import time
+from typing import Any, Iterator, Optional
+
+from .faults import LOOK, REFUSED, Lost, NoAnswer, Refused, Stop, no_desks
+from .http import JSON, PIECE, TEXT, UNTAKEN, Answer, Call, Site, Where, not_a_desk
+from .refusals import next_steps
+from .terminal import Progress, Terminal
+from .words import printable
+
+# Seconds between tries, and how many tries follow the first.
+FIRST_PAUSE, LONGEST_PAUSE, RETRIES = 0.25, 30.0, 7
+# The greatest number that a path takes.
+LAST = 9_999_999
+# Longer bodies are sent once the token is known to be somebody's.
+PREFLIGHT = 1 << 20
+
+
+class Desk(Site):
+    """The desk at an address, as one caller: `caller` is a mark of who that is, for the journal,
+    and `whose` says it where the desk doesn't know them."""
+
+    retries = RETRIES
+    known_caller = False
+
+    def __init__(self, where: Where, context: Optional[ssl.SSLContext], token: str,
+                 terminal: Terminal, caller: str, whose: str):
+        super().__init__(where, context, token, "deskctl")
+        self.terminal, self.caller, self.whose = terminal, caller, whose
+
+    def ask(self, call: Call) -> Answer:
+        """The answer to a call. Where none came it is asked again, by the same words and the same
+        key, unless the asking ends before."""
+        if len(call.body) > PREFLIGHT and not self.known_caller:
+            self.preflight()
+        pause, sent, text = FIRST_PAUSE, False, ""
+        for left in range(self.retries, -1, -1):
+            try:
+                with Progress(self.terminal, len(call.body)) as progress:
+                    answer = self.once(call, progress.at)
+                if not answer.open_ended():
+                    return self.judged(answer)
+                text, sent = answer.trouble(), sent or answer.status not in UNTAKEN
+            except NoAnswer as lost:
+                text, sent = str(lost), sent or lost.sent
+            except Stop as stop:
+                stop.tried = sent
+                raise
+            wait = pause * random.uniform(0.8, 1.2)
+            if not left or time.monotonic() + wait >= self.until:
+                break
+            self.terminal.note(f"deskctl: {printable(text)}; again in {wait:.1f} s")
+            time.sleep(wait)
+            pause = min(pause * 2, LONGEST_PAUSE)
+        raise Lost(text, sent,
+                   *([] if sent else ["Is the desk running there, and is the URL right?"]))
+
+    def preflight(self) -> None:
+        """Whether the token is somebody's, before a long body goes out."""
+        try:
+            self.get("/level").of_type(TEXT)
+        except Stop as stop:
+            # None of these tries was the command's.
+            stop.tried = False
+            if isinstance(stop, Lost):
+                stop.sent = False
+            raise
+
+    def judged(self, answer: Answer) -> Answer:
+        """An answer that is the desk's and no refusal."""
+        refused = answer.refusal()
+        if refused is None and answer.status == 200:
+            self.known_caller = True
+            return answer
+        if refused is None:
+            raise proxy_refusal(answer)
+        if refused.number in (41, 42, 43):
+            raise Lost(str(refused), True, *next_steps(refused.number))
+        if refused.number == 20:
+            refused.more = [self.whose]
+        raise refused
+
+    def get(self, path: str) -> Answer:
+        return self.ask(Call("GET", path))
+
+    def if_there(self, call: Call) -> Optional[Answer]:
+        """The answer; nothing where an older desk has no such route."""
+        try:
+            return self.ask(call)
+        except Refused as refused:
+            if refused.number == 53:
+                return None
+            raise
+
+    def get_new(self, path: str, what: str) -> Answer:
+        """A GET of a route that older desks don't have."""
+        answer = self.if_there(Call("GET", path))
+        if answer is None:
+            raise Stop(
+                REFUSED, f"this desk has no {what} over HTTP (refused 53 NoRoute): its program is"
+                " older than deskctl",
+                "Whoever keeps the desk reads them by `desk minutes`, while it doesn't serve.")
+        return answer
+
+    def listed(self, path: str, first: int = 1) -> Iterator[dict[str, Any]]:
+        """The objects of a list of numbered things, from this number on: in parts, or of the whole
+        list where an older desk has no parts."""
+        more = True
+        while more and first <= LAST:
+            more = False
+            try:
+                for value in self.items(f"{path}/from/{first}"):
+                    if not isinstance(value.get("number"), int) or value["number"] < first:
+                        raise no_desks("its list isn't in order")
+                    first, more = value["number"] + 1, True
+                    yield value
+            except Refused as refused:
+                if refused.number != 53:
+                    raise
+                yield from (value for value in self.items(path)
+                            if value.get("number", first) >= first)
+
+    def items(self, path: str) -> Iterator[dict[str, Any]]:
+        """The objects of an array, one after another: a list of any length takes little memory."""
+        answer = self.get(path).of_type(JSON)
+        decoder, text = json.JSONDecoder(), io.TextIOWrapper(answer.body, encoding="utf-8")
+        rest, at = text.read(PIECE), 1
+        if rest[:1] != "[":
+            raise not_a_desk(answer)
+        while rest[at:at + 1] != "]":
+            try:
+                found, end = decoder.raw_decode(rest, at)
+            except ValueError:
+                found, end = None, len(rest)
+            if end < len(rest):
+                if not isinstance(found, dict):
+                    raise not_a_desk(answer)
+                yield found
+                at = end + 1 if rest[end] == "," else end
+                continue
+            more = text.read(PIECE)
+            if not more:
+                raise not_a_desk(answer)
+            rest, at = rest[at:] + more, 0
+
+
+def proxy_refusal(answer: Answer) -> Stop:
+    """An answer without the desk's JSON: that of a proxy, or of something else."""
+    steps = {
+        400: ("The proxy asks for a client certificate, or has another one than it knows: --cert,"
+              " --key."),
+        401: "The proxy doesn't know you.",
+        403: "The proxy doesn't let you in.",
+        404: LOOK,
+        413: "The file is longer than the proxy lets through."}
+    if answer.status < 400:
+        return not_a_desk(answer)
+    text = (f"refused by the proxy: {answer.status} {http.client.responses.get(answer.status, '')}".
+            rstrip())
+    return Stop(REFUSED, text, steps.get(answer.status, "Ask who keeps the proxy."))

@@ -1,0 +1,270 @@
+"""The commands of proposals: proposals, proposal, confirm, drop."""
+from __future__ import annotations
+
+from dataclasses import dataclass
+from typing import Any, Optional
+
+from ..answers import Counts, Impact, Proposal, me_of, proposal_in, said_number, shaped
+from ..doubts import Known, known, level_doubts
+from ..faults import REFUSED, Refused, Stop, wrong
+from ..http import Call
+from ..questions import plain_question, rule_words
+from ..standing import level_of
+from ..words import KINDS, counted, kinds, printable
+from .run import OTHER_DESK, Replies, Run, act
+
+
+def proposals(run: Run) -> None:
+    taken = [value for value in run.desk.items("/proposals")
+             if run.words.state in (None, value.get("state"))]
+    if run.words.json:
+        run.print_json(taken)
+        return
+    rows = []
+    for value in taken:
+        one = shaped(Counts, value)
+        rows.append(
+            (one.number, one.state, one.digests, one.certificates, one.components, one.officer))
+    run.terminal.table(("NUMBER", "STATE", "DIGESTS", "CERTIFICATES", "COMPONENTS", "OFFICER"),
+                       rows, 5, "No such proposal.")
+
+
+BLIND = ("this desk doesn't show what a proposal names, nor what it bars: its program is older than"
+         " deskctl")
+
+
+def shown_proposal(run: Run, number: int) -> Optional[dict[str, Any]]:
+    """A proposal with all that it names; nothing where the desk has no such route."""
+    answer = run.desk.if_there(Call("GET", f"/proposals/{number}"))
+    return answer.object() if answer else None
+
+
+def row_of(run: Run, number: int) -> Counts:
+    for value in run.desk.items("/proposals"):
+        one = shaped(Counts, value)
+        if one.number == number:
+            return one
+    raise Refused(37, "NoSuchProposal")
+
+
+def impact_of(run: Run, number: int) -> dict[str, Any]:
+    return run.desk.get(f"/proposals/{number}/impact").object()
+
+
+def named_lines(run: Run, one: Proposal, about: dict[str, str]) -> list[str]:
+    """The desk, and all that a proposal names, an entry a line."""
+    lines = [(f"proposal {one.number} of {printable(one.officer)}: {printable(one.kind)},"
+              f" {printable(one.state)}"), f"  desk        {run.desk.where}"]
+    lines += [f"  expect      {one.tag()}"] if one.state == "open" else []
+    if one.stamp:
+        lines.append(f"  stamp       {one.stamp}")
+    for name, entries in (("digest", one.digests), ("certificate", one.certificates)):
+        lines += [
+            f"  {name:<11} {printable(entry)}  {about.get(entry, '')}".rstrip()
+            for entry in entries]
+    lines += [
+        f"  component   {printable(name)} {generation}" for name, generation in one.components]
+    if one.passed:
+        lines.append(
+            f"  skipped     {counted(one.passed, 'entry', 'entries')} of kinds that the desk hasn't"
+        )
+    return lines
+
+
+def impact_lines(impact: Impact) -> list[str]:
+    adds = impact.adds
+    lines = [f"A Confirm adds {kinds(adds)}; dbx then has {impact.dbx:,} bytes."]
+    for one in impact.bars:
+        now_ = "ALLOWED NOW" if one.get("allowed") else "refused now"
+        lines.append(
+            f"  bars request {one.get('request')} ({printable(one.get('file'))},"
+            f" {printable(one.get('state'))}, of {printable(one.get('submitter'))}), {now_}:"
+            f" {printable(rule_words(one.get('by') or {}, True))}; {printable(one.get('title'))}"
+        )
+    allowed = sum(bool(one.get("allowed")) for one in impact.bars)
+    lines.append(
+        f"It bars {counted(len(impact.bars), 'known image')}, {allowed} of them allowed now.")
+    return lines
+
+
+def blind_lines(one: Counts) -> list[str]:
+    return [f"proposal {one.number} of {printable(one.officer)}: {printable(one.state)};"
+            f" {kinds(one.named())}"]
+
+
+def proposal(run: Run) -> None:
+    number = run.words.number
+    value = shown_proposal(run, number)
+    if value is None:
+        if run.words.json:
+            raise Stop(REFUSED, f"{BLIND} (refused 53 NoRoute)",
+                       "`deskctl proposals` has the counts.")
+        for line in blind_lines(row_of(run, number)):
+            run.terminal.say(line)
+        raise Stop(
+            REFUSED, BLIND,
+            "Ask its proposer what it names; whoever keeps the desk reads it by `desk minutes`.")
+    one = proposal_in(value)
+    impact, lines = foreseen(run, one)
+    if run.words.json:
+        run.print_json(value)
+        if impact:
+            run.print_json(impact)
+        return
+    found = known(run.desk, one.digests, one.certificates, one.components)
+    for line in named_lines(run, one, found.about) + lines:
+        run.terminal.say(line)
+    own = own_doubts(run, one.officer) if one.state == "open" else []
+    level = level_doubts_of(run, one, found) if lines else []
+    for doubt in own + found.doubts + level:
+        run.terminal.say(f"! {doubt}")
+
+
+def foreseen(run: Run, one: Proposal) -> tuple[Optional[dict[str, Any]], list[str]]:
+    """What a Confirm of an open proposal does: the desk's answer, and lines of it. It may be that a
+    Confirm is refused."""
+    if one.state != "open":
+        return None, []
+    try:
+        impact = impact_of(run, one.number)
+    except Refused as refused:
+        return refused.answer, [f"A Confirm would be {refused}.", *closing(one.number)]
+    return impact, impact_lines(shaped(Impact, impact))
+
+
+def closing(number: int) -> list[str]:
+    return [f"As it stands it can't be confirmed; an officer closes it: deskctl drop {number}"]
+
+
+@dataclass(frozen=True)
+class Seen:
+    """What an officer is shown before a Confirm: the desk's answers, and what is doubtful."""
+
+    proposal: dict[str, Any]
+    impact: dict[str, Any]
+    doubts: list[str]
+
+    def bars(self) -> int:
+        return len(shaped(Impact, self.impact).bars)
+
+    def tag(self) -> str:
+        return proposal_in(self.proposal).tag()
+
+
+OWN_PROPOSAL = "You proposed it yourself: the desk takes the Confirm of another officer alone."
+
+
+def own_doubts(run: Run, officer: str) -> list[str]:
+    me = me_of(run.desk)
+    return [OWN_PROPOSAL] if me and me.name == officer else []
+
+
+def level_doubts_of(run: Run, one: Proposal, found: Known) -> list[str]:
+    return level_doubts(one.components, one.stamp, level_of(run.desk)[1], found.names)
+
+
+def show_all(run: Run, value: dict[str, Any], one: Proposal) -> Seen:
+    """Shows all that an open proposal names, and what a Confirm of it would do."""
+    found = known(run.desk, one.digests, one.certificates, one.components)
+    for line in named_lines(run, one, found.about):
+        run.terminal.warn(line)
+    try:
+        impact = impact_of(run, one.number)
+    except Refused as refused:
+        refused.more = closing(one.number)
+        raise
+    for line in impact_lines(shaped(Impact, impact)):
+        run.terminal.warn(line)
+    doubts = own_doubts(run, one.officer) + found.doubts + level_doubts_of(run, one, found)
+    return Seen(value, impact, doubts)
+
+
+def confirm_asks(run: Run) -> Optional[str]:
+    """What a Confirm would do, and the question; the proposal's tag, where the desk shows it."""
+    number, words = run.words.number, run.words
+    value = shown_proposal(run, number)
+    if value is None:
+        confirm_blind(run)
+        return None
+    one = proposal_in(value)
+    if one.state != "open":
+        # The desk answers: the old reply to the old key, or ProposalClosed.
+        return words.expect or one.tag()
+    seen = show_all(run, value, one)
+    if words.expect not in (None, one.tag()):
+        wrong(f"proposal {number} of {run.desk.where} isn't the one that you looked at")
+    if words.bars not in (None, seen.bars()):
+        bars = counted(seen.bars(), "known image")
+        wrong(f"proposal {number} bars {bars}, and not {words.bars}")
+    if words.expect is None or words.bars is None or seen.doubts:
+        confirm_question(run, seen)
+    return one.tag()
+
+
+def confirm_question(run: Run, seen: Seen) -> None:
+    """Asks for the count of known images that it bars, or for a yes if that was given; what was
+    shown has to stand when the answer comes."""
+    number, count = run.words.number, str(seen.bars())
+    begin = f"At {run.desk.where} nothing takes it back."
+    word = "--yes" if seen.doubts else f"--expect {seen.tag()} --bars {count}"
+    if run.words.bars is None:
+        question, wanted = "To confirm, type how many known images it bars:", count
+    else:
+        question, wanted = "Confirm it? Type yes:", "yes"
+    run.terminal.confirm(seen.doubts, f"{begin} {question}", wanted, word)
+    if shown_proposal(run, number) != seen.proposal or impact_of(run, number) != seen.impact:
+        wrong(f"what proposal {number} names or bars isn't what was shown; nothing was sent",
+              f"Look at it again: deskctl proposal {number}")
+
+
+def confirm_blind(run: Run) -> None:
+    one = row_of(run, run.words.number)
+    if one.state != "open":
+        return
+    for line in blind_lines(one):
+        run.terminal.warn(line)
+    for name in ("bars", "expect"):
+        if getattr(run.words, name) is not None:
+            wrong(f"--{name} can't be compared: {BLIND}",
+                  "Look at what it names by other ways; then --yes.")
+    entries = sum(one.named().values())
+    doubts = own_doubts(run, one.officer)
+    doubts.append(f"{BLIND}. Ask its proposer what it names, and compare.")
+    run.terminal.confirm(
+        doubts,
+        f"At {run.desk.where} nothing takes it back. To confirm, type how many entries it has:",
+        str(entries))
+
+
+def confirm(run: Run) -> None:
+    number = run.words.number
+    call = Call("POST", f"/proposals/{number}/confirm", b"", (), "confirmed", f"confirm {number}")
+
+    def show(replies: Replies) -> None:
+        reply = replies[0]
+        counts = {name: said_number(reply, name) for name in KINDS}
+        run.terminal.say(f"proposal {number} confirmed: {kinds(counts, 'new ')}")
+        if not any(counts.values()):
+            run.terminal.note("It changed nothing: all that it names was in force.")
+
+    act(run, [call], show, lambda _: confirm_asks(run), {49: lambda _: another_proposal(number)})
+
+
+def another_proposal(number: int) -> list[str]:
+    return [f"Proposal {number} names something else now. {OTHER_DESK}"]
+
+
+def drop_asks(run: Run, taken: bool) -> Optional[str]:
+    """Whether it is meant; the tag of the proposal, where the desk shows it."""
+    number = run.words.number
+    value = None if taken else shown_proposal(run, number)
+    if not taken:
+        run.terminal.ask(plain_question("drop", number))
+    return proposal_in(value).tag() if value else None
+
+
+def drop(run: Run) -> None:
+    number = run.words.number
+    call = Call("POST", f"/proposals/{number}/drop", b"", (), "dropped", f"drop {number}")
+    act(run, [call], lambda _: run.terminal.say(f"proposal {number} dropped"),
+        lambda taken: drop_asks(run, taken), {49: lambda _: another_proposal(number)})

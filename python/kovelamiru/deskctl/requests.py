@@ -1,0 +1,267 @@
+"""The commands of requests: submit, requests, request, wait, review, withdraw, return."""
+from __future__ import annotations
+
+import hashlib
+import io
+import math
+import shutil
+import time
+from typing import Optional
+
+from ..answers import Request, me_of, request_of, said_number, shaped
+from ..described import LIMITS
+from ..desk import LONGEST_PAUSE
+from ..facts import gap_words
+from ..faults import LOST, REFUSED, Lost, Stop, wrong
+from ..files import IMAGE_LIMIT, read_file
+from ..http import JSON, Call
+from ..pe import has_sbat
+from ..pkcs7 import signatures_of
+from ..questions import carried_question, plain_question, rule_words, yes_question
+from ..standing import barred_by, standing_of
+from ..words import desk_json, printable
+from .images import facts_of
+from .run import OTHER_DESK, Replies, Run, act
+from .settings import config_path
+from .verdicts import body_causes, carried_words, verdict_causes
+
+
+def ascii_text(text: str, what: str, least: int, most: int) -> str:
+    """A title or a note in its form."""
+    for place, sign in enumerate(text, 1):
+        if not " " <= sign <= "~":
+            wrong(f"the {what} has {sign!r} at place {place}",
+                  f"A {what} is ASCII alone: letters, digits, signs and spaces.")
+    if not least <= len(text) <= most:
+        wrong(f"the {what} has {len(text)} characters, and may have {least} to {most}")
+    return text
+
+
+def state_of(run: Run, number: int) -> list[str]:
+    request = request_of(run.desk, number)
+    return [f"Request {number} is {request.state}."]
+
+
+def submit(run: Run) -> None:
+    path, title = run.words.file, ascii_text(run.words.title, "title", 1, LIMITS["title"])
+    if title != title.strip():
+        wrong("a title can't begin or end with a space")
+    data = read_file(path, IMAGE_LIMIT, "an image has")
+    whole = hashlib.sha256(data).hexdigest()
+    call = Call("POST", "/requests", data, (("Desk-Title", title),), "submitted",
+                f"submit {path} ({whole}), {title}")
+
+    def show(replies: Replies) -> None:
+        number = said_number(replies[0], "request")
+        run.terminal.say(f"request {number} submitted")
+        run.terminal.say(f"file {whole}")
+        run.terminal.note(
+            f"The desk keeps no image: give the file to the reviewers. `deskctl wait {number}`"
+            " waits for two of them.")
+        if not has_sbat(data):
+            run.terminal.note("It has no .sbat: only its digest or its signer can bar it.")
+
+    act(run, [call], show, causes={
+        **body_causes(path, data), 28: lambda _: verdict_causes(run, path, data)})
+
+
+def own_name(run: Run) -> str:
+    """The caller's name: as it is given, or as the desk has it."""
+    me = None if run.settings.name else me_of(run.desk)
+    name = me.name if me else run.settings.name
+    if not name:
+        wrong("--mine needs your name, which this desk doesn't tell",
+              f"Give --name NAME, DESK_NAME, or `name = NAME` in {config_path()}.")
+    return name
+
+
+def requests(run: Run) -> None:
+    words = run.words
+    name = own_name(run) if words.mine else None
+    if words.json and not words.state and not words.mine:
+        answer = run.desk.get("/requests").of_type(JSON)
+        shutil.copyfileobj(io.TextIOWrapper(answer.body, encoding="utf-8"), run.terminal.out)
+        run.terminal.say()
+        return
+    taken = (value for value in run.desk.items("/requests")
+             if words.state in (None, value.get("state"))
+             and (not words.mine or value.get("submitter") == name))
+    if words.json:
+        run.print_json(list(taken))
+        return
+    rows = []
+    for value in taken:
+        one = shaped(Request, value)
+        votes = " ".join(f"{vote['reviewer']}:{vote['vote']}" for vote in one.votes) or "-"
+        rows.append((one.number, one.state, one.submitter, votes, one.file, one.title))
+    run.terminal.table(("NUMBER", "STATE", "SUBMITTER", "VOTES", "FILE", "TITLE"), rows, 5,
+                       "No such request.")
+
+
+NEXT = {
+    "open": "two votes of yes approve it, one no rejects it",
+    "approved": "the signer returns the signed file",
+    "signed": "done",
+    "rejected": "for good: a mended image is a new request",
+    "withdrawn": "for good"}
+
+
+def request(run: Run) -> None:
+    value = run.desk.get(f"/requests/{run.words.number}").object()
+    if run.words.json:
+        run.print_json(value)
+        return
+    one, me = shaped(Request, value), me_of(run.desk)
+    rows: list[tuple[str, object]] = [
+        ("number", one.number), ("state", f"{one.state} ({NEXT.get(one.state, '')})"),
+        ("submitter", one.submitter + (" (you)" if me and me.name == one.submitter else "")),
+        ("title", one.title), ("length", one.length), ("file", one.file), ("digest", one.digest),
+        ("signing", one.signing)]
+    rows += [("gap", gap_words(one.gap))] if one.gap else []
+    rows += [("carried", digest) for digest in one.carried]
+    rows += [("component", f"{name} {generation}") for name, generation in one.components]
+    rows += [("vote", f"{vote['reviewer']} {vote['vote']}  {vote['note']}".rstrip())
+             for vote in one.votes]
+    rows += [("returned", one.returned)] if one.returned else []
+    barred = barred_by(standing_of(run.desk), one)
+    rows += [("today", f"barred: {rule_words(barred)}")] if barred else []
+    run.terminal.rows(rows)
+
+
+OWN_REQUEST = "You submitted it yourself: the desk takes votes of other reviewers alone."
+
+
+def looked_at(run: Run, taken: bool) -> Optional[str]:
+    """The tag of the request: the SHA-256 of its submitted file."""
+    return None if taken else request_of(run.desk, run.words.number).file
+
+
+def withdraw_asks(run: Run, taken: bool) -> Optional[str]:
+    tag = looked_at(run, taken)
+    if not taken:
+        run.terminal.ask(plain_question("withdraw", run.words.number))
+    return tag
+
+
+def another_file(number: int) -> list[str]:
+    return [f"Request {number} is another file now. {OTHER_DESK}"]
+
+
+def review_asks(run: Run, taken: bool) -> Optional[str]:
+    """Before a vote that the desk will refuse, as its caller's own request, before a yes on a
+    barred image, and before what the vote settles for good."""
+    if taken:
+        return None
+    one, me = request_of(run.desk, run.words.number), me_of(run.desk)
+    if me and one.submitter == me.name:
+        run.terminal.confirm([OWN_REQUEST], "Vote all the same? Type yes:")
+    elif run.words.vote == "no":
+        run.terminal.ask(plain_question("no", one.number))
+    elif asks := yes_question(one, standing_of(run.desk)):
+        lines = list(asks.values())
+        if "barred" in asks:
+            run.terminal.confirm(lines, "Vote yes all the same? Type yes:")
+        else:
+            run.terminal.ask(lines)
+    return one.file
+
+
+def review(run: Run) -> None:
+    number, note = run.words.number, ascii_text(run.words.note, "note", 0, LIMITS["note"])
+    body = desk_json({"note": note, "vote": run.words.vote}).encode()
+    call = Call("POST", f"/requests/{number}/review", body, (), "reviewed",
+                f"review {number} {run.words.vote} {note}".rstrip())
+
+    def show(replies: Replies) -> None:
+        state = printable(replies[0].get("state"))
+        run.terminal.say(f"request {number} reviewed: {state}")
+        run.terminal.note(f"{state}: {NEXT.get(state, '')}.")
+
+    act(run, [call], show, lambda taken: review_asks(run, taken),
+        {24: lambda _: state_of(run, number), 49: lambda _: another_file(number)})
+
+
+def withdraw(run: Run) -> None:
+    number = run.words.number
+    call = Call("POST", f"/requests/{number}/withdraw", b"", (), "withdrawn", f"withdraw {number}")
+    act(run, [call], lambda _: run.terminal.say(f"request {number} withdrawn"),
+        lambda taken: withdraw_asks(run, taken),
+        {24: lambda _: state_of(run, number), 49: lambda _: another_file(number)})
+
+
+def differing(run: Run, number: int, path: str) -> list[str]:
+    one, facts = request_of(run.desk, number), facts_of(run, path)
+    return [
+        f"Reviewed: digest {one.digest}, signing {one.signing}.", f"{path}: digest {facts.digest}."]
+
+
+def return_asks(run: Run, taken: bool, data: bytes) -> Optional[str]:
+    """Before a file that carries a listed certificate which isn't its signer's, unless the image's
+    digest is listed."""
+    if taken:
+        return None
+    one, now = request_of(run.desk, run.words.number), standing_of(run.desk)
+    if not now.digests & {one.digest, one.signing}:
+        doubt = carried_question(signatures_of(data), now)
+        if doubt:
+            run.terminal.confirm([doubt], "Return it all the same? Type yes:")
+    return one.file
+
+
+def give_back(run: Run) -> None:
+    number, path = run.words.number, run.words.file
+    data = read_file(path, IMAGE_LIMIT, "an image has")
+    whole = hashlib.sha256(data).hexdigest()
+    call = Call("POST", f"/requests/{number}/return", data, (), "returned",
+                f"return {number} {path} ({whole})")
+
+    def show(replies: Replies) -> None:
+        run.terminal.say(f"request {number} signed")
+        run.terminal.say(f"returned {whole}")
+        run.terminal.note("The desk checked no signature: `osslsigncode verify` does, before.")
+
+    act(
+        run, [call], show, lambda taken: return_asks(run, taken, data), {
+            **body_causes(path, data), 24: lambda _: state_of(run, number),
+            27: lambda _: differing(run, number, path),
+            28: lambda _: verdict_causes(run, path, data),
+            29: lambda _: carried_words(run, path, data),
+            49: lambda _: another_file(number)})
+
+
+def hopeless(one: Request, wanted: str) -> None:
+    """Ends the wait for a state that the request can't get any more."""
+    if one.state in ("rejected", "withdrawn", "signed") or (one.state == "approved"
+                                                            and wanted in ("open", "rejected")):
+        notes = [
+            f"{vote['reviewer']}: {printable(vote['note'])}" for vote in one.votes
+            if vote["vote"] == "no" and vote["note"]]
+        raise Stop(REFUSED, f"request {one.number} is {one.state}, and won't be {wanted}", *notes)
+
+
+def wait(run: Run) -> None:
+    """Asks for a request until it has the state; a signed one was approved before. A desk that
+    answered once may do so again."""
+    number, wanted, pause = run.words.number, run.words.state, 1.0
+    until = time.monotonic() + (run.words.timeout or math.inf)
+    run.desk.until = until
+    one: Optional[Request] = None
+    while True:
+        try:
+            value = run.desk.get(f"/requests/{number}").object()
+            one = shaped(Request, value)
+        except Lost as lost:
+            if one is None:
+                raise
+            run.terminal.note(f"deskctl: {printable(lost)}; still waiting")
+        else:
+            if one.state == wanted or (wanted, one.state) == ("approved", "signed"):
+                (run.print_json(value)
+                 if run.words.json else run.terminal.say(f"request {number} {one.state}"))
+                return
+            hopeless(one, wanted)
+        left = until - time.monotonic()
+        if left <= 0:
+            raise Stop(LOST, f"request {number} is still {one.state} after {run.words.timeout:g} s")
+        time.sleep(min(pause, left))
+        pause = min(pause * 1.5, LONGEST_PAUSE)

@@ -1,0 +1,105 @@
+"""The commands of lists, revocations and proposals, with their help."""
+from __future__ import annotations
+
+from ..described import WORDS
+from .arguments import (Command, component_word, count_word, generation_word, hash_word,
+                        number_word, stamp_word, word)
+from .importing import import_file
+from .lists import list_certificate, list_digest, raise_level, revoke, unlist
+from .proposals import confirm, drop, proposal, proposals
+
+PROPOSAL = word("number", metavar="N", type=number_word, help="the proposal's number")
+EXPECT = word("--expect", metavar="HEX", type=hash_word,
+              help="go on only if it is what `deskctl proposal N` showed with this tag")
+BARS = word("--bars", metavar="COUNT", type=count_word,
+            help="go on only if it bars exactly so many known images")
+ALLOWING = "Listing (db), by one officer"
+REVOKING = "Revoking (dbx and the level), proposed by one officer and confirmed by another"
+LISTS: tuple[Command, ...] = (
+    Command("list-certificate", ALLOWING, "FILE [--image IMAGE]", "list a signer's certificate",
+            list_certificate,
+            (word("file", metavar="FILE", help="one certificate, in PEM or DER"),
+             word("--image", metavar="IMAGE",
+                  help="an image that its key signed: does it carry this certificate?")),
+            "officers",
+            ("Shows its subject, its issuer, its key and whether it is a CA's, and asks. The desk"
+             " then allows each image that carries this certificate. Says where firmware would"
+             " refuse it or the desk would surprise: a key that isn't RSA, a CA's, a certificate"
+             " that is revoked, or whose issuer is, as far as the desk's lists and minutes have the"
+             " issuer's. A file of two, of a request, of a key or of a CRL isn't taken."),
+            "deskctl list-certificate signer.pem --image shimx64.signed.efi"),
+    Command("list-digest", ALLOWING, "HEX|IMAGE", "list one image", list_digest,
+            (word("image", metavar="HEX|IMAGE",
+                  help="an image's digest, or its file; not the SHA-256 of the file"),),
+            "officers",
+            ("Asks first where the digest is, as far as the desk knows, the SHA-256 of a whole file"
+             " or a certificate: that would allow nothing."), "deskctl list-digest memtest.efi"),
+    Command(
+        "unlist", ALLOWING, "digest|certificate HEX|FILE", "take an entry off the list", unlist,
+        (word("kind", choices=("digest", "certificate"), metavar="digest|certificate",
+              help="which kind of entry"),
+         word("hex", metavar="HEX|FILE",
+              help="an image's digest or file; a certificate's file or TBSCertificate hash")),
+        "officers",
+        "It revokes nothing: an image that was allowed by this entry alone is then not listed.",
+        "deskctl unlist certificate old-signer.pem"),
+    Command(
+        "revoke", REVOKING, "IMAGE.. [--digest HEX] [--certificate FILE|HEX]",
+        "propose to revoke images and certificates", revoke,
+        (word("images", metavar="IMAGE", nargs="*",
+              help="images: of each its digest, and the one that a signature holds"),
+         word("--digest", metavar="HEX", action="append", default=[],
+              help="an image's digest; not the SHA-256 of the file"),
+         word("--certificate", metavar="FILE|HEX", action="append", default=[],
+              help="a certificate's file, or its TBSCertificate's SHA-256; no fingerprint")),
+        "officers",
+        ("All that is named is one proposal (10,000 entries a proposal). Asks first where a"
+         " SHA-256 is that of a whole file, of a whole certificate, or of the other kind, as far"
+         " as the desk knows: such an entry bars nothing, for good."),
+        "deskctl revoke grubx64.efi grubx64-installer.efi"),
+    Command(
+        "raise", REVOKING, "NAME GENERATION --stamp N", "propose a higher generation of the level",
+        raise_level,
+        (word("component", metavar="NAME", type=component_word, help="an SBAT component, as grub"),
+         word("generation", metavar="GENERATION", type=generation_word,
+              help="the least that is allowed"),
+         word("--stamp", metavar="N", type=stamp_word, required=True,
+              help="the level's new stamp: ten digits, YYYYMMDDNN")), "officers",
+        ("Asks first where the generation is above 65,535 or ten or more above the present one,"
+         " or the stamp doesn't begin with a date within a year of today."),
+        "deskctl raise grub 5 --stamp 2026112701"),
+    Command("import", REVOKING, "FILE [--stamp N] [--dry-run]", "propose a file of revocations",
+            import_file,
+            (word("file", metavar="FILE", help="the file"),
+             word("--stamp", metavar="N", type=stamp_word,
+                  help="for a CSV that raises generations: the new stamp, YYYYMMDDNN"),
+             word("--arch", metavar="A",
+                  help="only Microsoft's images of this architecture: x64, x86, arm64, arm"),
+             word("--dry-run", action="store_true", help="say what is in it, and send nothing")),
+            "officers",
+            ("The kinds, found by their bytes: signature lists; the same as an authenticated update"
+             " (DBXUpdate.bin) or as efivarfs has them; the desk's CSV; a level's text; Microsoft's"
+             " dbx_info_msft, JSON or CSV. The signature of an update isn't verified. Says first"
+             " what is in it. More than 10,000 entries are several proposals. Versions of Windows'"
+             " boot programs and hashes of whole files are left out."),
+            "deskctl import DBXUpdate.bin --dry-run"),
+    Command("proposals", REVOKING, "[--state S]", "list the proposals", proposals,
+            (word("--state", metavar="S", choices=tuple(WORDS["proposals"]),
+                  help=f"those of this state: {', '.join(WORDS['proposals'])}"),), "officers",
+            ("Without a terminal a proposal is a line of fields parted by tabs: number, state,"
+             " digests, certificates, components, officer."), "deskctl proposals --state open"),
+    Command(
+        "proposal", REVOKING, "N", "show all that a proposal names, and what it bars", proposal,
+        (PROPOSAL,), "officers",
+        ("Each digest and certificate with what is known of it, and the known images that a"
+         " Confirm would bar. What follows `expect` is the proposal's tag, for --expect of `deskctl"
+         " confirm`: a name for all that it puts into force."),
+        "deskctl proposal 1"),
+    Command(
+        "confirm", REVOKING, "N [--expect HEX] [--bars COUNT]",
+        "put another officer's proposal into force", confirm, (PROPOSAL, EXPECT, BARS), "officers",
+        ("Names the desk, shows all that the proposal names and which known images it would bar,"
+         " and goes on once you have typed how many these are, if it is still what was shown."
+         " Nothing takes a Confirm back."), "deskctl confirm 1"),
+    Command("drop", REVOKING, "N", "close a proposal without effect", drop, (PROPOSAL,),
+            "officers", "On a terminal it asks first.", "deskctl drop 1"))

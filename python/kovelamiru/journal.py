@@ -1,0 +1,116 @@
+"""Commands that take effect once: a key is on the disk before it goes out, until it is answered."""
+from __future__ import annotations
+
+import datetime
+import fcntl
+import hashlib
+import json
+import os
+import secrets
+from typing import Any, Callable, NoReturn
+
+from .faults import DONE, reason, wrong
+from .files import folder_of, write_all
+
+# Where a run says that it waits.
+Note = Callable[[str], None]
+
+
+def now() -> datetime.datetime:
+    return datetime.datetime.now(datetime.timezone.utc)
+
+
+def new_key() -> str:
+    """A key of this moment: the minutes get a time by it."""
+    return now().strftime("%Y%m%dT%H%M%SZ-") + secrets.token_hex(8)
+
+
+class Entry:
+    """The keys of one command in the journal, locked while a run has them. They go out only after
+    they are on the disk, with the tag of what the command is about, if it is about something:
+    each try names what was looked at before the first."""
+    def __init__(self, path: str, note: Note):
+        self.path = path
+        self.file = self.locked(note)
+        self.keys: list[str] = []
+        self.since = self.tag = ""
+        try:
+            found = json.loads(os.pread(self.file, 1 << 20, 0))
+            self.keys, self.since = [str(key) for key in found["keys"]], str(found["since"])
+            self.tag = str(found.get("tag", ""))
+        except (ValueError, KeyError, TypeError):
+            # New, or cut before any key went out.
+            pass
+
+    def locked(self, note: Note) -> int:
+        while True:
+            opened = os.open(self.path, os.O_RDWR | os.O_CREAT | os.O_CLOEXEC | os.O_NOFOLLOW,
+                             0o600)
+            try:
+                fcntl.flock(opened, fcntl.LOCK_EX | fcntl.LOCK_NB)
+            except BlockingIOError:
+                note(
+                    "deskctl: the same command is under way in another run; this one waits for it")
+                fcntl.flock(opened, fcntl.LOCK_EX)
+            try:
+                if os.path.samestat(os.fstat(opened), os.stat(self.path)):
+                    return opened
+            except FileNotFoundError:
+                pass
+            os.close(opened)
+
+    def write(self, what: str, where: str, count: int, tag: str) -> None:
+        """New keys and the tag, on the disk before any of them goes out."""
+        self.tag = tag
+        self.keys, self.since = [new_key()
+                                 for _ in range(count)], now().strftime("%Y-%m-%dT%H:%M:%SZ")
+        text = json.dumps({
+            "desk": where,
+            "keys": self.keys,
+            "since": self.since,
+            "tag": tag,
+            "what": what}).encode()
+        os.ftruncate(self.file, 0)
+        os.lseek(self.file, 0, os.SEEK_SET)
+        write_all(self.file, text)
+        os.fsync(self.file)
+        folder = os.open(os.path.dirname(self.path), os.O_RDONLY | os.O_CLOEXEC)
+        os.fsync(folder)
+        os.close(folder)
+
+    def done(self) -> None:
+        os.unlink(self.path)
+
+    def over(self) -> NoReturn:
+        """Ends the run: its answers were shown. Killed between the two lines, and run again, it
+        acts again."""
+        os.unlink(self.path)
+        os._exit(DONE)
+
+    def close(self) -> None:
+        os.close(self.file)
+
+
+class Journal:
+    """Commands whose answer hasn't come, a file each."""
+    def __init__(self) -> None:
+        self.folder = os.path.join(folder_of("XDG_STATE_HOME", ".local/state"), "deskctl")
+
+    def entry(self, identity: Any, note: Note) -> Entry:
+        name = hashlib.sha256(json.dumps(identity).encode()).hexdigest()[:32]
+        try:
+            os.makedirs(self.folder, mode=0o700, exist_ok=True)
+            return Entry(os.path.join(self.folder, name), note)
+        except OSError as error:
+            wrong(f"no journal can be kept in {self.folder}: {reason(error)}",
+                  "XDG_STATE_HOME names another folder for it.")
+
+    def pending(self) -> list[dict[str, Any]]:
+        found = []
+        for name in sorted(os.listdir(self.folder)) if os.path.isdir(self.folder) else []:
+            try:
+                with open(os.path.join(self.folder, name), encoding="utf-8") as file:
+                    found.append({**json.load(file), "file": name})
+            except (OSError, ValueError, TypeError):
+                pass
+        return sorted(found, key=lambda entry: str(entry.get("since")))

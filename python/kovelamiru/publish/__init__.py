@@ -1,0 +1,1 @@
+"""desk-publish: what a desk decided, put where mirrors fetch it."""

@@ -1,0 +1,157 @@
+"""The folder that is published: what it had, and a new one in its place by one rename."""
+from __future__ import annotations
+
+import argparse
+import calendar
+import os
+import re
+import shutil
+import stat
+import time
+from typing import NoReturn, Optional
+
+from ..faults import Unreadable, broken
+from ..shim import NAME as SHIM, difference
+from ..update import certificate_length
+from .desk import LISTS, Found, audit_of, digest
+from .files import read, synced, write
+from .page import Before, Publication, day, dbx_json, firsts_of, index
+from .programs import SIGNING_SECONDS, audited, ran, refused, said_by, signature
+from .rules import follows
+
+# What signatures are for, by their namespaces.
+PUBLISH, MINUTES = "kovelamiru-publish", "kovelamiru-checkpoint"
+PAGE, JSON, CHECKPOINT = "index.html", "dbx.json", "checkpoint.txt"
+
+
+def unpublished(link: str, name: str, text: str) -> NoReturn:
+    broken(f"{os.path.join(link, name)} isn't what was published: {text}")
+
+
+def published(link: str) -> Before:
+    """What was published last: it is what the next one is judged by. Its own sums must be right."""
+    at = os.path.realpath(link)
+    sums: dict[str, str] = {}
+    date = 0
+    for line in read(os.path.join(at, "SHA256SUMS")).decode("ascii", "replace").splitlines():
+        if re.fullmatch(r"# date \d{4}-\d\d-\d\dT\d\d:\d\d:\d\dZ", line):
+            date = calendar.timegm(time.strptime(line[7:], "%Y-%m-%dT%H:%M:%SZ"))
+        elif not line.startswith("#"):
+            one = re.fullmatch(r"([0-9a-f]{64})  ([A-Za-z0-9][A-Za-z0-9._-]*)", line)
+            if not one:
+                unpublished(link, "SHA256SUMS", f"no sum is {line[:100]!r}")
+            sums[one[2]] = one[1]
+    names = {*sums, *LISTS, "audit.txt", "minutes.txt"}
+    data = {name: read(os.path.join(at, name)) for name in names}
+    found = Found(data["minutes.txt"], *(data[name] for name in LISTS))
+    for name in sorted({*sums, *LISTS, "audit.txt"}):
+        if sums.get(name) != digest(data[name]):
+            unpublished(link, name, "its SHA-256 is another one")
+    told = audit_of(data["audit.txt"])
+    if any(told.get(name) != value for name, value in found.audit().items()):
+        unpublished(link, "minutes.txt", "audit.txt is of other files")
+    return Before(found, date, firsts_of(data[JSON]) if JSON in data else {})
+
+
+def folders(link: str) -> list[str]:
+    """The names of the publications beside the link, the oldest first."""
+    folder, name = os.path.split(link)
+    return sorted(one for one in os.listdir(folder)
+                  if re.fullmatch(re.escape(name) + r"\.\d{8}T\d{6}Z-calls-\d+", one))
+
+
+def current(link: str) -> str:
+    """The name of the published one."""
+    return os.path.basename(os.readlink(link)) if os.path.islink(link) else ""
+
+
+def hidden(link: str) -> None:
+    """Minutes that were public are for this user alone."""
+    for one in folders(link):
+        path = os.path.join(os.path.dirname(link), one, "minutes.txt")
+        if os.path.isfile(path) and os.stat(path).st_mode & stat.S_IROTH:
+            os.chmod(path, 0o600)
+
+
+def swept(link: str, keep: int) -> None:
+    """Takes away what a broken run left, and old folders."""
+    for left in (f"{link}.new", f"{link}.sign"):
+        if os.path.lexists(left):
+            shutil.rmtree(left)
+    if os.path.lexists(f"{link}.link"):
+        os.unlink(f"{link}.link")
+    for old in folders(link)[:-keep]:
+        if old != current(link):
+            shutil.rmtree(os.path.join(os.path.dirname(link), old))
+
+
+def update(command: str, name: str, data: bytes, folder: str) -> bytes:
+    """The authenticated update of a list that the signing command makes, in a folder of its own."""
+    os.mkdir(folder, 0o700)
+    try:
+        given, out = os.path.join(folder, f"{name}.esl"), os.path.join(folder, f"{name}.auth")
+        write(given, data, 0o600)
+        done = ran(f"{command} {name}", [command, name, given, out], SIGNING_SECONDS)
+        if done.returncode != 0:
+            refused("signature", f"{command} {name}: status {done.returncode}: {said_by(done)}")
+        made = read(out) if os.path.lexists(out) else b""
+        if not ends_with(made, data):
+            refused("signature", f"{command} {name}: what it made isn't an update with the list")
+        return made
+    finally:
+        shutil.rmtree(folder)
+
+
+def ends_with(made: bytes, data: bytes) -> bool:
+    """Whether it is an authenticated update with these lists."""
+    try:
+        return made[16 + certificate_length(made):] == data
+    except Unreadable:
+        return False
+
+
+def pages(words: argparse.Namespace, files: dict[str, bytes], found: Found, now: int,
+          last: Optional[Before]) -> dict[str, bytes]:
+    """What people and programs read of these files."""
+    updates = [name for name in files if name.endswith(".auth")]
+    made = Publication(words.owner, found, now, files["audit.txt"], files[SHIM], bool(words.key),
+                       words.public_minutes, updates, last)
+    return {PAGE: index(made), JSON: dbx_json(made)}
+
+
+def filled(words: argparse.Namespace, link: str, whole: str, now: int, found: Found,
+           last: Optional[Before]) -> None:
+    """Writes the new folder, and gives it to the disk."""
+    new = f"{link}.new"
+    write(os.path.join(new, "minutes.txt"), found.minutes, 0o644 if words.public_minutes else 0o600)
+    minutes = os.path.join(new, "minutes.txt")
+    files = {**found.lists(), "audit.txt": follows(words.program, words.owner, found, minutes)}
+    files[SHIM] = audited(words.program, words.owner, minutes, "shim")
+    odd = difference(files[SHIM], words.owner, found.minutes, found.dbx)
+    if odd:
+        refused("shim", f"{SHIM} wouldn't revoke what dbx does: {odd}")
+    if words.sign:
+        for name, data in (("dbx", found.dbx), ("db", found.db)):
+            if data:
+                files[f"{name}.auth"] = update(words.sign, name, data, f"{link}.sign")
+    files[CHECKPOINT] = (f"owner {words.owner.lower()}\ncalls {found.calls}\n"
+                         f"minutes {digest(found.minutes)}\n").encode()
+    if words.key:
+        files[f"{CHECKPOINT}.sig"] = signature(words.key, MINUTES, files[CHECKPOINT])
+    files.update(pages(words, files, found, now, last))
+    sums = f"# calls {found.calls}\n# date {day(now)}\n# folder {os.path.basename(whole)}\n"
+    sums += "".join(f"{digest(data)}  {name}\n" for name, data in sorted(files.items()))
+    files["SHA256SUMS"] = sums.encode()
+    if words.key:
+        files["SHA256SUMS.sig"] = signature(words.key, PUBLISH, files["SHA256SUMS"])
+    for name, data in files.items():
+        write(os.path.join(new, name), data, 0o644)
+    os.chmod(new, 0o755)
+    for name in [*files, "minutes.txt"]:
+        synced(os.path.join(new, name))
+    synced(new)
+
+
+def named(link: str, now: int, found: Found) -> str:
+    """The folder of a publication."""
+    return f"{link}.{time.strftime('%Y%m%dT%H%M%SZ', time.gmtime(now))}-calls-{found.calls}"

@@ -1,0 +1,48 @@
+"""What is asked before a vote, a withdrawal, a return or a drop, in the words of
+page/wire/questions.json."""
+from __future__ import annotations
+
+from typing import Optional, Sequence
+
+from .answers import Request
+from .described import WORDS, described
+from .pkcs7 import Signature
+from .standing import Standing, barred_by
+
+QUESTIONS: dict[str, dict[str, str]] = described("questions")
+
+
+def rule_words(rule: dict[str, object], would: bool = False) -> str:
+    """What bars an image, or why it isn't allowed: as it is, or as it would be behind a Confirm."""
+    parts = {"is": "would be", "requires": "would require"} if would else {
+        "is": "is", "requires": "requires"}
+    verdict = str(rule.get("verdict"))
+    return str(WORDS["rules"].get(verdict, verdict)).format_map({**rule, **parts})
+
+
+def plain_question(name: str, number: int) -> list[str]:
+    """Before a vote of no, a withdrawal or a drop: `name` is one of these."""
+    return [QUESTIONS[name]["plain"].format(number=number)]
+
+
+def yes_question(one: Request, now: Standing, another: bool = False) -> dict[str, str]:
+    """Before a yes: an image that is `barred`, `another` one that was looked at, and the `second`
+    yes, which approves it. Nothing where nothing is asked."""
+    barred: Optional[dict[str, object]] = barred_by(now, one)
+    asks = {"barred": barred is not None, "another": another,
+            "second": any(vote["vote"] == "yes" for vote in one.votes)}
+    why = rule_words(barred) if barred else ""
+    return {name: QUESTIONS["yes"][name].format(number=one.number, why=why)
+            for name, holds in asks.items() if holds}
+
+
+def carried_question(signatures: Sequence[Signature], now: Standing) -> Optional[str]:
+    """Where a listed certificate is carried, and no signature says that it is by a listed one."""
+    listed = {(one.by, one.serial) for one in now.certificates.values() if one}
+    signers = [signer for one in signatures for signer in one.signers]
+    carried = [each for one in signatures for each in one.certificates
+               if each.tbs in now.certificates]
+    if not carried or any((signer.issuer, signer.serial) in listed for signer in signers):
+        return None
+    words = "; ".join(signer.words for signer in signers) or "by nobody"
+    return QUESTIONS["return"]["carried"].format(subject=carried[0].subject, signers=words)

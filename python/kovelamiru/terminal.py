@@ -1,0 +1,114 @@
+"""The terminal: results, notes, tables, questions, and the bar of an upload."""
+from __future__ import annotations
+
+import shutil
+import sys
+from typing import Sequence, TextIO
+
+from .faults import wrong
+from .words import brief, cut, printable
+
+
+class Terminal:
+    """What people see: results on standard output, all else on standard error."""
+    def __init__(self, out: TextIO, err: TextIO):
+        self.out, self.err = out, err
+        self.quiet = False
+        self.yes = False
+        # A person can be asked: questions go to standard error, and standard input answers them.
+        self.asks = err.isatty() and sys.stdin is not None and sys.stdin.isatty()
+        self.wide = out.isatty()
+
+    def say(self, text: str = "") -> None:
+        self.out.write(text + "\n")
+
+    def note(self, text: str) -> None:
+        if not self.quiet:
+            self.err.write(text + "\n")
+            self.err.flush()
+
+    def warn(self, text: str) -> None:
+        self.err.write(text + "\n")
+        self.err.flush()
+
+    def flush(self) -> None:
+        self.out.flush()
+
+    def table(self, heads: Sequence[str], rows: Sequence[Sequence[object]], stretch: int,
+              none: str) -> None:
+        """A table: on a terminal with heads and as wide as that is, the column `stretch` cut short,
+        or a note that there is none; else tabs and nothing cut."""
+        if not rows:
+            if self.wide:
+                self.note(none)
+            return
+        cells = [[printable(cell) for cell in row] for row in rows]
+        if not self.wide:
+            for row in cells:
+                self.say("\t".join(row))
+            return
+        cells.insert(0, list(heads))
+        cells = [[brief(cell) if at != stretch else cell for at, cell in enumerate(row)]
+                 for row in cells]
+        widths = [max(len(row[at]) for row in cells) for at in range(len(heads))]
+        over = sum(widths) + 2 * (len(heads) - 1) - shutil.get_terminal_size().columns
+        if over > 0:
+            less = min(over, max(widths[stretch] - 8, 0))
+            widths[stretch] -= less
+            for _ in range(over - less):
+                widths[widths.index(max(widths))] -= 1
+        for row in cells:
+            shown = [cut(cell, widths[at]).ljust(widths[at]) for at, cell in enumerate(row)]
+            self.say("  ".join(shown).rstrip())
+
+    def rows(self, pairs: Sequence[tuple[str, object]]) -> None:
+        """A name and its value a line."""
+        for name, value in pairs:
+            self.say(f"{name:<11} {printable(value)}".rstrip())
+
+    def confirm(self, doubts: Sequence[str], question: str, wanted: str = "yes",
+                word: str = "--yes") -> None:
+        """Shows the doubts, and goes on only if a person types what is wanted, or --yes was given.
+        `word` says the same without asking."""
+        for doubt in doubts:
+            self.warn(f"! {doubt}")
+        if self.yes:
+            return
+        if not self.asks:
+            wrong("nothing was sent, since there is no terminal to ask at",
+                  f"If it is what you mean, say so: {word}.")
+        self.err.write(f"{question} ")
+        self.err.flush()
+        answer = sys.stdin.readline().strip()
+        if answer != wanted:
+            wrong("nothing was sent")
+
+    def ask(self, consequences: Sequence[str]) -> None:
+        """Before what can't be taken back, where a person can be asked: a script means it."""
+        if self.asks and not self.yes:
+            self.confirm(consequences, "Is that meant? Type yes:")
+
+
+class Progress:
+    """A bar for an upload, on a terminal alone."""
+    def __init__(self, terminal: Terminal, size: int):
+        self.err = terminal.err
+        self.shown = terminal.err.isatty() and not terminal.quiet and size > 1 << 18
+        self.size, self.last = size, -1
+
+    def at(self, sent: int) -> None:
+        percent = sent * 100 // max(self.size, 1)
+        if self.shown and percent != self.last:
+            self.last = percent
+            done = percent * 30 // 100
+            self.err.write(f"\r[{'#' * done}{'.' * (30 - done)}] {percent:3d} % of"
+                           f" {self.size / 1048576:.1f} MiB")
+            self.err.flush()
+
+    def __enter__(self) -> Progress:
+        return self
+
+    def __exit__(self, *_: object) -> None:
+        if self.shown and self.last >= 0:
+            self.err.write("\r" + " " * 60 + "\r")
+            self.err.flush()

@@ -1,0 +1,89 @@
+"""What waits for somebody at a desk: by the desk's own answer, or, at an older desk, by its whole
+lists."""
+from __future__ import annotations
+
+import datetime
+from dataclasses import dataclass
+from typing import Any, Iterable, Optional
+
+from .answers import Counts, Me, Request, said_number, shaped
+from .desk import Desk
+from .http import Call
+from .journal import now
+from .minutes import minutes_from
+from .sentences import minute
+from .words import counted
+
+# So many yes approve a request.
+NEEDED = 2
+# A part of the minutes has so many lines at most.
+PART = 1000
+
+
+@dataclass(frozen=True)
+class Waiting:
+    """What waits for the caller, and their own requests that are under way, as the desk's JSON."""
+
+    requests: list[dict[str, Any]]
+    proposals: list[dict[str, Any]]
+
+
+def waits(me: Me, one: Request) -> bool:
+    """Whether a request waits for the caller, or is theirs and under way (docs/FORMATS.md)."""
+    if me.role == "signer":
+        return one.state == "approved"
+    if one.submitter == me.name:
+        return one.state in ("open", "approved")
+    voted = any(vote["reviewer"] == me.name for vote in one.votes)
+    return me.role == "reviewer" and one.state == "open" and not voted
+
+
+def waiting_of(desk: Desk, me: Me) -> Waiting:
+    answer = desk.if_there(Call("GET", "/waiting"))
+    if answer:
+        return shaped(Waiting, answer.object())
+    if me.role == "officer":
+        proposals = [value for value in desk.items("/proposals")
+                     if value.get("state") == "open" and value.get("officer") != me.name]
+        return Waiting([], proposals)
+    requests = [value for value in desk.items("/requests") if waits(me, shaped(Request, value))]
+    return Waiting(requests, [])
+
+
+def changes_of(desk: Desk) -> Optional[int]:
+    """A number that changes with what the caller is shown of requests and proposals; nothing at an
+    older desk."""
+    answer = desk.if_there(Call("GET", "/changes"))
+    return said_number(answer.object(), "changes") if answer else None
+
+
+def yes_words(one: Request) -> str:
+    """How many yes a request has, and whose."""
+    whose = [vote["reviewer"] for vote in one.votes if vote["vote"] == "yes"]
+    return f"{len(whose)} of {NEEDED} yes" + (f", by {', '.join(whose)}" if whose else "")
+
+
+def ages_of(desk: Desk, proposals: Iterable[Counts]) -> dict[int, str]:
+    """How long ago each was proposed, by the clock of whoever made its key; only of those among the
+    desk's last calls."""
+    replies = {f"proposed {one.number}": one.number for one in proposals}
+    changes = changes_of(desk) if replies else None
+    if changes is None:
+        return {}
+    first = max(changes - PART + 1, 1)
+    calls = map(minute, minutes_from(desk, first).decode("ascii", "replace").splitlines())
+    return {replies[call.reply]: age(call.time()) for call in calls
+            if call and call.reply in replies and call.time()}
+
+
+def age(time: str) -> str:
+    """How long ago it was."""
+    try:
+        then = datetime.datetime.strptime(f"{time}Z", "%Y-%m-%d %H:%M:%S%z")
+    except ValueError:
+        return "-"
+    minutes = max(int((now() - then).total_seconds()) // 60, 0)
+    for size, name in ((1440, "day"), (60, "hour")):
+        if minutes >= size:
+            return counted(minutes // size, name)
+    return counted(minutes, "minute")

@@ -1,0 +1,40 @@
+"""Words for people: counts, and text from elsewhere made fit to be shown."""
+from __future__ import annotations
+
+import json
+import re
+from typing import Any, Mapping
+
+HEX = re.compile(r"[0-9A-Fa-f]{64}\Z")
+
+
+def printable(text: object) -> str:
+    """Text from elsewhere, without what would move a terminal's cursor."""
+    return "".join(sign if sign.isprintable() else f"\\x{ord(sign):02x}" for sign in str(text))
+
+
+def cut(text: str, width: int) -> str:
+    return text if len(text) <= width else text[:width - 1] + "~"
+
+
+def brief(cell: str) -> str:
+    """The beginning of a digest, for a table."""
+    return cell[:12] + ".." if HEX.match(cell) else cell
+
+
+def counted(number: int, one: str, many: str = "") -> str:
+    return f"{number:,} {one if number == 1 else many or one + 's'}"
+
+
+KINDS = {"digests": "digest", "certificates": "certificate", "components": "component"}
+
+
+def kinds(counts: Mapping[str, int], new: str = "") -> str:
+    """How many there are of each kind of entry."""
+    return ", ".join(counted(counts[name], new + one) for name, one in KINDS.items()
+                     if name in counts)
+
+
+def desk_json(value: Any) -> str:
+    """The desk's own form of JSON."""
+    return json.dumps(value, separators=(",", ":"), sort_keys=True)
