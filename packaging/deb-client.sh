@@ -1,9 +1,10 @@
 #!/bin/sh
-# Makes the package kovelamiru-deskctl_VERSION_all.deb of client/, in the working folder or the named
-# one, and prints its path: deb-client.sh [OUT]. deskctl is one file there, which client/one_file.py
-# makes of its modules; the page and the completions are those of client/pages.py. Its version must be
-# the newest in CHANGELOG.md. The same tree and SOURCE_DATE_EPOCH (by default the commit's date) give
-# the same bytes. It needs dpkg-deb, git, gzip and python3.
+# Makes the package kovelamiru-deskctl_VERSION_all.deb of client/ and python/, in the working folder
+# or the named one, and prints its path: deb-client.sh [OUT]. deskctl is one file there, which
+# client/one_file.py makes of its modules; the page and the completions are those of
+# client/pages.py. Its version must be the newest in CHANGELOG.md. The same tree and
+# SOURCE_DATE_EPOCH (by default the commit's date) give the same bytes. It needs dpkg-deb, git, gzip
+# and python3.
 set -eu
 umask 022
 export LC_ALL=C TZ=UTC
@@ -19,7 +20,7 @@ for tool in dpkg-deb git gzip python3; do
     command -v "$tool" > /dev/null || fail "$tool is needed"
 done
 name=kovelamiru-deskctl
-version=$(sed -n 's/^VERSION = "\(.*\)"$/\1/p' "$root/client/src/deskctl/__init__.py")
+version=$(sed -n 's/^VERSION = "\(.*\)"$/\1/p' "$root/python/kovelamiru/__init__.py")
 newest=$(sed -n '/^## /{s/^## \([^ ,]*\).*/\1/p;q}' "$root/CHANGELOG.md")
 [ "$version" = "$newest" ] || fail "deskctl has version $version, and CHANGELOG.md $newest"
 commit=$(git -C "$root" describe --always --dirty --abbrev=40 --exclude='*')
@@ -52,13 +53,16 @@ place 644 "$room/_deskctl" usr/share/zsh/vendor-completions/_deskctl
 place 644 "$room/deskctl.fish" usr/share/fish/vendor_completions.d/deskctl.fish
 place 644 "$root/client/README.md" "usr/share/doc/$name/README.md"
 for unit in service timer; do
-    place 644 "$root/client/watch/deskctl-watch.$unit" "usr/share/doc/$name/examples/deskctl-watch.$unit"
+    unit=deskctl-watch.$unit
+    place 644 "$root/client/watch/$unit" "usr/share/doc/$name/examples/$unit"
 done
 
 cp "$root/CHANGELOG.md" "$room/CHANGELOG.md"
 {
-    printf '%s (%s) unstable; urgency=medium\n\n  * CHANGELOG.md.gz has the changes.\n\n' "$name" "$version"
-    printf ' -- %s  %s\n' "$maintainer" "$(date -d "@$SOURCE_DATE_EPOCH" '+%a, %d %b %Y %H:%M:%S +0000')"
+    printf '%s (%s) unstable; urgency=medium\n\n' "$name" "$version"
+    printf '  * CHANGELOG.md.gz has the changes.\n\n'
+    printf ' -- %s  %s\n' "$maintainer" \
+        "$(date -d "@$SOURCE_DATE_EPOCH" '+%a, %d %b %Y %H:%M:%S +0000')"
 } > "$room/changelog"
 for text in CHANGELOG.md changelog; do
     packed "$room/$text"
@@ -72,19 +76,25 @@ done
     if [ -e "$root/LICENSE" ]; then
         cat "$root/LICENSE"
     else
-        grep 'no LICENSE file' "$root/CONTRIBUTING.md" || fail 'CONTRIBUTING.md says nothing of a licence'
-        printf '%s\n' 'So this package is for those whom the owner lets have it, and is not to be passed on before a licence is named.'
+        grep 'no LICENSE file' "$root/CONTRIBUTING.md" ||
+            fail 'CONTRIBUTING.md says nothing of a licence'
+        printf 'So this package is for those whom the owner lets have it, and is not to be '
+        printf 'passed on before a licence is named.\n'
     fi
 } > "$room/copyright"
 place 644 "$room/copyright" "usr/share/doc/$name/copyright"
-printf 'Commit %s. SHA-256 of /usr/bin/deskctl: %s.\n\ndeskctl is not proved. README.md and deskctl(1) say how to use it.\n' \
-    "$commit" "$(sha256sum < "$room/one" | cut -d' ' -f1)" > "$room/README.Debian"
+{
+    printf 'Commit %s. SHA-256 of /usr/bin/deskctl: %s.\n\n' "$commit" \
+        "$(sha256sum < "$room/one" | cut -d' ' -f1)"
+    printf 'deskctl is not proved. README.md and deskctl(1) say how to use it.\n'
+} > "$room/README.Debian"
 place 644 "$room/README.Debian" "usr/share/doc/$name/README.Debian"
 
 # ---- the package
 
 mkdir "$tree/DEBIAN"
-size=$(find "$tree" -type f -printf '%s\n' | awk '{ kib += int(($1 + 1023) / 1024) } END { print kib }')
+size=$(find "$tree" -type f -printf '%s\n' |
+    awk '{ kib += int(($1 + 1023) / 1024) } END { print kib }')
 cat > "$tree/DEBIAN/control" << CONTROL
 Package: $name
 Version: $version
@@ -92,8 +102,7 @@ Architecture: all
 Maintainer: $maintainer
 Installed-Size: $size
 Depends: python3 (>= 3.9)
-Recommends: kovelamiru-desk
-Suggests: bash-completion, sbsigntool
+Suggests: kovelamiru-desk, bash-completion, sbsigntool
 Section: admin
 Priority: optional
 Description: Secure Boot signing and revocation desk, from a terminal
@@ -104,7 +113,8 @@ Description: Secure Boot signing and revocation desk, from a terminal
  .
  It decides nothing and isn't proved: the desk is.
 CONTROL
-(cd "$tree" && find . -path ./DEBIAN -prune -o -type f -printf '%P\n' | sort | xargs md5sum) > "$room/md5sums"
+(cd "$tree" && find . -path ./DEBIAN -prune -o -type f -printf '%P\n' | sort | xargs md5sum) \
+    > "$room/md5sums"
 place 644 "$room/md5sums" DEBIAN/md5sums
 find "$tree" -exec touch -h -d "@$SOURCE_DATE_EPOCH" {} +
 deb=$out/${name}_${version}_all.deb

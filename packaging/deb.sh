@@ -1,10 +1,11 @@
 #!/bin/sh
 # Makes the package kovelamiru-desk_VERSION_amd64.deb of a proved program, in the working folder or
 # the named one, and prints its path: deb.sh PROGRAM [OUT]. The program goes in unchanged. Beside it
-# stands the record that it was proved (packaging/record), of this commit and no edited tree; else
-# there is no package. VERSION is the program's own, which must be the newest in CHANGELOG.md, with
-# the commit's date and hash. The same program, tree and SOURCE_DATE_EPOCH (by default the commit's
-# date) give the same bytes. It needs dpkg-dev, git, gzip and python3.
+# stands the record that it was proved (packaging/record), of this commit and no edited tree; else,
+# and of a trial program, there is no package. VERSION is the program's own, which must be the
+# newest in CHANGELOG.md, with the commit's date and hash. The same program, tree and
+# SOURCE_DATE_EPOCH (by default the commit's date) give the same bytes. It needs dpkg-dev, git, gzip
+# and python3.
 set -eu
 umask 022
 export LC_ALL=C TZ=UTC
@@ -24,16 +25,16 @@ done
 # An executable for x86-64 that asks for the loader of every Debian system.
 readelf -hl "$program" 2> /dev/null > /dev/null || fail "$program is no program"
 readelf -h "$program" | grep -q 'Machine: .*X86-64' || fail "$program is for another machine"
-readelf -l "$program" | grep -q 'interpreter: /lib64/ld-linux-x86-64.so.2' || fail "$program asks for a loader of its own"
+readelf -l "$program" | grep -q 'interpreter: /lib64/ld-linux-x86-64.so.2' ||
+    fail "$program asks for a loader of its own"
 
 name=kovelamiru-desk
 record=$("$here/record" read "$program")
-# told KEY: what the record says of it.
-told() { echo "$record" | sed -n "s/^$1 //p"; }
-commit=$(told commit)
-# As `desk 0.2.0 (KIT)`.
-said=$("$program" --version)
-version=$(echo "$said" | sed -n 's/^desk \([^ ]*\) (.*)$/\1/p')
+# record_value KEY: prints it.
+record_value() { echo "$record" | sed -n "s/^$1 //p"; }
+commit=$(record_value commit)
+# As `desk 0.2.0`.
+version=$("$program" --version | sed -n 's/^desk \([^ ]*\).*/\1/p')
 newest=$(sed -n '/^## /{s/^## \([^ ,]*\).*/\1/p;q}' "$root/CHANGELOG.md")
 [ "$version" = "$newest" ] || fail "the program has version $version, and CHANGELOG.md $newest"
 committed=$(git -C "$root" log -1 --format=%ct)
@@ -56,8 +57,8 @@ packed() { gzip -9n "$1"; }
 # ---- the files
 
 place 755 "$program" usr/bin/desk
-for unit in kovelamiru-desk.service kovelamiru-publish.service kovelamiru-publish.timer kovelamiru-standby.service kovelamiru-standby.timer; do
-    place 644 "$here/$unit" "usr/lib/systemd/system/$unit"
+for unit in desk.service publish.service publish.timer standby.service standby.timer; do
+    place 644 "$here/kovelamiru-$unit" "usr/lib/systemd/system/kovelamiru-$unit"
 done
 place 644 "$here/kovelamiru-desk.sysusers" usr/lib/sysusers.d/kovelamiru-desk.conf
 place 644 "$here/desk.bash" usr/share/bash-completion/completions/desk
@@ -69,20 +70,32 @@ for site in "$here"/nginx*.conf; do
         *) place 644 "$site" "usr/share/doc/$name/examples/${site##*/}" ;;
     esac
 done
-for runbook in "$here"/runbooks/*.md; do place 644 "$runbook" "usr/share/doc/$name/runbooks/${runbook##*/}"; done
-for page in AUDIT INTEROPERATION WALKTHROUGH; do place 644 "$root/docs/$page.md" "usr/share/doc/$name/$page.md"; done
-# The programs in Python and what they share; each finds it by the path of the link.
-for module in "$here"/desk_*.py; do place 644 "$module" "usr/lib/$name/${module##*/}"; done
+for runbook in "$here"/runbooks/*.md; do
+    place 644 "$runbook" "usr/share/doc/$name/runbooks/${runbook##*/}"
+done
+for page in AUDIT INTEROPERATION WALKTHROUGH; do
+    place 644 "$root/docs/$page.md" "usr/share/doc/$name/$page.md"
+done
+# The programs in Python and their package; each finds it by the path of the link.
+(cd "$root/python" && find kovelamiru -name '*.py' ! -path '*/deskctl/*') > "$room/modules"
+while read -r module; do
+    place 644 "$root/python/$module" "usr/lib/$name/$module"
+done < "$room/modules"
+ln -s "../../../share/$name/page/wire" "$tree/usr/lib/$name/kovelamiru/wire"
 for tool in desk-publish desk-standby; do
     place 755 "$here/$tool" "usr/lib/$name/$tool"
     ln -s "../lib/$name/$tool" "$tree/usr/bin/$tool"
 done
 place 644 "$here/lintian-overrides" "usr/share/lintian/overrides/$name"
-for file in "$root"/page/*; do place 644 "$file" "usr/share/$name/page/${file##*/}"; done
+# The page (its .json files are for editors, tsc and node), and the data that it reads.
+find "$root/page" -type f ! -name "*.json" ! -path "*/wire/*" -printf '%P\n' | while read -r file; do
+    place 644 "$root/page/$file" "usr/share/$name/page/$file"
+done
+for file in "$root"/page/wire/*.json; do place 644 "$file" "usr/share/$name/page/wire/${file##*/}"; done
 # The demo and the files that it takes, each at its place in the repository.
 demo=usr/lib/$name/demo
-for file in "$here"/nginx*.conf "$root/checks/common.sh" "$root/checks/requests/ports.py" "$root/examples/signed.efi" \
-    "$root/examples/tiny.efi" "$root/examples/certificate.der"; do
+for file in "$here"/nginx*.conf "$root/checks/common.sh" "$root/checks/support/ports.py" \
+    "$root/examples/signed.efi" "$root/examples/tiny.efi" "$root/examples/certificate.der"; do
     place 644 "$file" "$demo/${file#"$root/"}"
 done
 place 755 "$here/demo.sh" "$demo/packaging/demo.sh"
@@ -98,8 +111,10 @@ done
 
 cp "$root/CHANGELOG.md" "$room/CHANGELOG.md"
 {
-    printf '%s (%s) unstable; urgency=medium\n\n  * CHANGELOG.md.gz has the changes.\n\n' "$name" "$version"
-    printf ' -- %s  %s\n' "$maintainer" "$(date -d "@$SOURCE_DATE_EPOCH" '+%a, %d %b %Y %H:%M:%S +0000')"
+    printf '%s (%s) unstable; urgency=medium\n\n' "$name" "$version"
+    printf '  * CHANGELOG.md.gz has the changes.\n\n'
+    printf ' -- %s  %s\n' "$maintainer" \
+        "$(date -d "@$SOURCE_DATE_EPOCH" '+%a, %d %b %Y %H:%M:%S +0000')"
 } > "$room/changelog"
 for text in CHANGELOG.md changelog; do
     packed "$room/$text"
@@ -113,20 +128,38 @@ done
     if [ -e "$root/LICENSE" ]; then
         cat "$root/LICENSE"
     else
-        grep 'no LICENSE file' "$root/CONTRIBUTING.md" || fail 'CONTRIBUTING.md says nothing of a licence'
-        printf '%s\n' 'So this package is for those whom the owner lets have it, and is not to be passed on before a licence is named.'
+        grep 'no LICENSE file' "$root/CONTRIBUTING.md" ||
+            fail 'CONTRIBUTING.md says nothing of a licence'
+        printf 'So this package is for those whom the owner lets have it, and is not to be '
+        printf 'passed on before a licence is named.\n'
     fi
-    printf '\nThe program was built by the Rattle kit (%s), whose libraries are part of it.\n' "$(told kit)"
+    printf '\nThe program was built by the Rattle kit (%s), whose libraries are part of it.\n' \
+        "$(record_value kit)"
 } > "$room/copyright"
 place 644 "$room/copyright" "usr/share/doc/$name/copyright"
 
-{
-    printf '/usr/bin/desk was proved and built by `%s` from this commit, without an edit:\n\n' "$(told by)"
-    printf 'commit   %s\nkit      %s\nsources  %s (their sum, by `./prove --sources desk`)\nSHA-256  %s\n\n' \
-        "$commit" "$(told kit)" "$(told sources)" "$(told program)"
-    printf 'No desk is made, and nothing is started, by the installation. desk(1) says how to make one, how to let it serve, how to\n'
-    printf 'copy it, and what an older copy means. Neither remove nor purge takes /var/lib/kovelamiru-desk away.\n'
-} > "$room/README.Debian"
+cat > "$room/README.Debian" << README
+Whoever made this package says that \`$(record_value by)\` proved and built /usr/bin/desk from this
+commit, without an edit, and that rt said of it last what stands here. No signature, and nothing in
+the package, shows that this is true.
+
+commit   $commit
+kit      $(record_value kit)
+sources  $(record_value sources) (their sum, by \`./prove --sources desk\`)
+SHA-256  $(record_value program)
+rt said  $(record_value rt)
+
+To see it for yourself, prove and build the program again, with that kit, in a clone of the
+repository; both sums should be that SHA-256:
+
+    git checkout $commit
+    ./prove desk
+    sha256sum crates/desk/out/desk /usr/bin/desk
+
+No desk is made, and nothing is started, by the installation. desk(1) says how to make one, how to
+let it serve, how to copy it, and what an older copy means. Neither remove nor purge takes
+/var/lib/kovelamiru-desk away.
+README
 place 644 "$room/README.Debian" "usr/share/doc/$name/README.Debian"
 
 # ---- the package
@@ -134,9 +167,11 @@ place 644 "$room/README.Debian" "usr/share/doc/$name/README.Debian"
 # The program's dependencies, by the libraries that it names and the versions of their symbols.
 mkdir "$room/debian" "$tree/DEBIAN"
 printf 'Source: %s\n\nPackage: %s\nArchitecture: amd64\n' "$name" "$name" > "$room/debian/control"
-needs=$(cd "$room" && dpkg-shlibdeps -O -e"$tree/usr/bin/desk" 2> needs.err | sed -n 's/^shlibs:Depends=//p') || fail "$(cat "$room/needs.err")"
+needs=$(cd "$room" && dpkg-shlibdeps -O -e"$tree/usr/bin/desk" 2> needs.err |
+    sed -n 's/^shlibs:Depends=//p') || fail "$(cat "$room/needs.err")"
 [ -n "$needs" ] || fail "no libraries are found: $(cat "$room/needs.err")"
-size=$(find "$tree" -type f -printf '%s\n' | awk '{ kib += int(($1 + 1023) / 1024) } END { print kib }')
+size=$(find "$tree" -type f -printf '%s\n' |
+    awk '{ kib += int(($1 + 1023) / 1024) } END { print kib }')
 cat > "$tree/DEBIAN/control" << CONTROL
 Package: $name
 Version: $version
@@ -162,7 +197,8 @@ CONTROL
 for script in preinst postinst prerm postrm; do
     if [ -e "$here/$script" ]; then place 755 "$here/$script" "DEBIAN/$script"; fi
 done
-(cd "$tree" && find . -path ./DEBIAN -prune -o -type f -printf '%P\n' | sort | xargs md5sum) > "$room/md5sums"
+(cd "$tree" && find . -path ./DEBIAN -prune -o -type f -printf '%P\n' | sort | xargs md5sum) \
+    > "$room/md5sums"
 place 644 "$room/md5sums" DEBIAN/md5sums
 find "$tree" -exec touch -h -d "@$SOURCE_DATE_EPOCH" {} +
 deb=$out/${name}_${version}_amd64.deb
