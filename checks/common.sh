@@ -60,88 +60,12 @@ within() {
     wait "$!"
 }
 
-# ---- runs of the program
-
-runs=0
-
-# run STATUS OUTPUT ERROR INPUT WORD..: the program, run on the words, ends so; OUTPUT and INPUT are
-# files, ERROR a line. Each is counted in `runs`.
-run() {
-    status=$1 output=$2 error=$3 input=$4
-    shift 4
-    got=0
-    "$program" "$@" < "$input" > out 2> err || got=$?
-    if [ -n "$error" ]; then printf '%s\n' "$error" > want; else : > want; fi
-    if [ "$got" -ne "$status" ] || ! cmp -s out "$output" || ! cmp -s err want; then
-        fail "desk $*: status $got in place of $status; standard output and error: $(cat out err)"
-    fi
-    runs=$((runs + 1))
-}
-
-# audited OWNER DB: an audit passes the desk's minutes, and tells what the desk exports.
-audited() {
-    "$program" minutes "$2" > audited.minutes
-    {
-        echo "calls $(wc -l < audited.minutes)"
-        for export in minutes dbx db level; do echo "$export $("$program" "$export" "$2" | sha256sum | cut -d' ' -f1)"; done
-    } > audited.lines
-    run 0 audited.lines '' /dev/null audit "$1" audited.minutes
-}
-
-# ---- requests, and a desk that has some calls
-
-# posted TOKEN KEY PATH FILE [FIELD..]: writes the request by which the holder of the token posts the
-# file.
-posted() (
-    printf 'POST %s HTTP/1.1\r\nDesk-Token: %s\r\nDesk-Key: %s\r\n' "$3" "$1" "$2"
-    body=$4
-    shift 4
-    for field in "$@"; do printf '%s\r\n' "$field"; done
-    printf 'Content-Length: %s\r\n\r\n' "$(wc -c < "$body")"
-    cat "$body"
-)
-
-# accepts DB NAME KEY PATH FILE [FIELD..]: the desk accepts what this person posts, whose token is
-# NAME-token-for-the-desk. The answer is in `response`.
-accepts() {
-    desk=$1 name=$2 key=$3 path=$4
-    shift 4
-    posted "$name-token-for-the-desk" "$key" "$path" "$@" > request
-    "$program" answer "$desk" < request > response || fail "$path by $name: $(cat response)"
-    if ! head -n 1 response | grep -q ' 200 ' || ! tail -n 1 response | grep -q '"reply"'; then
-        fail "$path by $name: $(cat response)"
-    fi
-}
-
-# afternoon DB OWNER: makes a desk, with six people, a request, its reviews and its return, a listing,
-# and a digest and a generation that two officers revoked. The files `digest` and `none` are bodies.
-afternoon() {
-    "$program" init "$1" "$2"
-    for person in ann/submitter rita/reviewer raul/reviewer sid/signer olga/officer otto/officer; do
-        name=${person%/*}
-        echo "$name-token-for-the-desk" | "$program" person "$1" "$name" "${person#*/}" "k-$name" > said
-    done
-    : > none
-    echo '{"note":"read it","vote":"yes"}' > yes
-    printf '{"digest":"%064d"}' 7 > digest
-    echo '{"component":"grub","generation":3,"stamp":2024010100}' > raise
-    accepts "$1" ann k1 /requests "$root/examples/signed.efi" 'Desk-Title: a signed loader'
-    accepts "$1" rita k1 /requests/1/review yes
-    accepts "$1" raul k1 /requests/1/review yes
-    accepts "$1" olga k1 /db/certificates "$root/examples/certificate.der"
-    accepts "$1" sid k1 /requests/1/return "$root/examples/signed.efi"
-    accepts "$1" olga k2 /dbx/digests digest
-    accepts "$1" otto k1 /proposals/1/confirm none
-    accepts "$1" olga k3 /level raise
-    accepts "$1" otto k2 /proposals/2/confirm none
-}
-
 # ---- the desk's server
 
 is_running() { [ -e "/proc/$1/exe" ]; }
 
-# listens PROCESS PORT: whether the process, or its child, listens at this port of 127.0.0.1, as
-# requests/ports.py tells it, without a run of Python for each look.
+# listens PROCESS PORT: whether the process, or its child, listens at this port of 127.0.0.1, without
+# a run of Python for each look.
 listens() {
     inode=$(awk -v at="$(printf '0100007F:%04X' "$2")" '$2 == at && $4 == "0A" { print $10 }' /proc/net/tcp)
     [ -n "$inode" ] || return 1
@@ -154,11 +78,11 @@ listens() {
 }
 
 # hold COUNT: `ports` are so many ports of 127.0.0.1 that this script holds until it ends, for servers
-# that it starts and stops. Nobody else is given them: see requests/ports.py. It needs python3.
+# that it starts and stops. Nobody else is given them: see support/ports.py. It needs python3.
 hold() {
     needs python3
     mkfifo holding
-    python3 -B "$root/checks/requests/ports.py" "$1" > holding &
+    python3 -B "$root/checks/support/ports.py" "$1" > holding &
     started="$started $!"
     read -r ports < holding || fail 'no port is free'
     rm holding

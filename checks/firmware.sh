@@ -68,4 +68,4 @@ fi
 [ -e "$source/shim.c" ] || fail "no source of shim in $source"
 cp -a "$source" shim
 
-within 1200 python3 -B "$root/checks/firmware/decide.py" "$program"
+PYTHONPATH=$root within 1200 python3 -B -m checks.firmware.decide "$program"

@@ -7,14 +7,14 @@ import shutil
 import subprocess
 from typing import List, NamedTuple, Sequence, Tuple
 
-from candidates import Candidates
-from desks import fail
-from images import Shape, image
-from keys import Tools, run
+from checks.firmware.candidates import Candidates
+from checks.firmware.images import Shape, image
+from checks.firmware.keys import Tools, run
+from checks.support.says import fail
 
 CODE = "/usr/share/OVMF/OVMF_CODE_4M.secboot.fd"
 VARIABLES = "/usr/share/OVMF/OVMF_VARS_4M.snakeoil.fd"
-KEK, KEK_KEY = (f"/usr/share/ovmf/PkKek-1-snakeoil.{it}" for it in ("pem", "key"))
+KEK, KEK_KEY = (f"/usr/share/ovmf/PkKek-1-snakeoil.{one}" for one in ("pem", "key"))
 OWNER = "00112233-4455-6677-8899-aabbccddeeff"
 # Of db and dbx: non-volatile, for both kinds of services, with time-based authentication.
 AUTHENTICATED = "27"
@@ -53,9 +53,9 @@ class Boot:
         self.lines: List[Line] = []
         self.ran: List[str] = []
         self.names: List[Tuple[str, str]] = []
-        for number, it in enumerate(candidates.all):
-            self.names.append((it.name, f"/c/{number}.efi"))
-            self.write(f"c/{number}.efi", it.image)
+        for number, one in enumerate(candidates.all):
+            self.names.append((one.name, f"/c/{number}.efi"))
+            self.write(f"c/{number}.efi", one.image)
         with open("loader.bin", "rb") as file:
             self.loader = image(file.read(), Shape())
         self.write("EFI/BOOT/BOOTX64.EFI", tools.sbsign(self.loader, "snakeoil"))
@@ -67,7 +67,7 @@ class Boot:
             file.write(data)
 
     def steps(self, name: str, steps: Sequence[str]) -> None:
-        self.write(name, "".join(f"{it}\n" for it in steps).encode())
+        self.write(name, "".join(f"{one}\n" for one in steps).encode())
 
     def command(self, said: str) -> List[str]:
         store = f"{self.folder}.variables"
@@ -120,7 +120,7 @@ class Boot:
 
     def status(self, word: str, name: str) -> str:
         """What came of a step, in a word; there has to be one such step."""
-        found = [it.status for it in self.lines if (it.word, it.name) == (word, name)]
+        found = [one.status for one in self.lines if (one.word, one.name) == (word, name)]
         if len(found) != 1:
             fail(f"the boot of {self.folder}: {word} {name} {len(found)} times")
         return STATUS.get(found[0], found[0])
@@ -133,12 +133,13 @@ class Boot:
     def sets(self, name: str, path: str) -> None:
         """SetVariable of this file went well."""
         wanted = ("set", name, path)
-        found = [it.status for it in self.lines if (it.word, it.name, it.rest) == wanted]
+        found = [one.status for one in self.lines if (one.word, one.name, one.rest) == wanted]
         if found != ["0" * 16]:
             fail(f"the boot of {self.folder}: SetVariable of {name} from {path}: {found}")
 
     def variable(self, name: str) -> bytes:
-        found = [it for it in self.lines if (it.word, it.name) == ("get", name)]
+        found = [one for one in self.lines if (one.word, one.name) == ("get", name)]
         if len(found) != 1 or found[0].status != "0" * 16:
-            fail(f"the boot of {self.folder}: GetVariable of {name}: {[it.status for it in found]}")
+            statuses = [one.status for one in found]
+            fail(f"the boot of {self.folder}: GetVariable of {name}: {statuses}")
         return bytes.fromhex(found[0].rest)

@@ -5,10 +5,10 @@ from __future__ import annotations
 from concurrent.futures import Future, ThreadPoolExecutor
 from typing import Callable, Dict, List, NamedTuple, Sequence, Set
 
-from images import (
+from checks.firmware.images import (
     GUID_ENTRY, PKCS7_ENTRY, SBAT, Shape, authenticode, image, marked, padded, pkcs7, with_table,
 )
-from keys import Keys, Tools
+from checks.firmware.keys import Keys, Tools
 
 # EFI_CERT_TYPE_PKCS7_GUID.
 PKCS7_GUID = bytes.fromhex("9dd2af4adf68ee498aa9347d375665a7")
@@ -22,9 +22,14 @@ def with_component(generation: str) -> bytes:
     return SBAT.replace(b"candidate,1", f"{COMPONENT},{generation}".encode())
 
 
-BELOW, AT, ABOVE = (with_component(str(LEVEL + it)) for it in (-1, 0, 1))
+BELOW, AT, ABOVE = (with_component(str(LEVEL + one)) for one in (-1, 0, 1))
 # A row below the level, of six fields.
 ROW = f"{COMPONENT},{LEVEL - 1},a,b,c,d\n".encode()
+
+
+def with_entry(kind: int, body: bytes) -> Make:
+    """With a table of this entry."""
+    return lambda data: with_table(data, (kind, body))
 
 
 class Candidate(NamedTuple):
@@ -47,9 +52,9 @@ class Candidates:
                 self.levels, self.vendors,
             ):
                 group()
-        self.all = [it.result() for it in self.coming]
-        self.listed: Set[str] = set().union(*(it.listed for it in self.all))
-        self.revoked: Set[str] = set().union(*(it.revoked for it in self.all))
+        self.all = [one.result() for one in self.coming]
+        self.listed: Set[str] = set().union(*(one.listed for one in self.all))
+        self.revoked: Set[str] = set().union(*(one.revoked for one in self.all))
 
     def add(self, name: str, make: Make, *acts: str, **shape: object) -> None:
         """A candidate. Acts are words: `list` or `revoke`, then which digest."""
@@ -81,7 +86,7 @@ class Candidates:
         self, data: bytes, name: str, *others: str, algorithm: str = "sha256", spoilt: bool = False
     ) -> bytes:
         """SignedData of a signer that carries its certificate and these others."""
-        carried = [self.keys.certificates[it] for it in (name, *others)]
+        carried = [self.keys.certificates[one] for one in (name, *others)]
         digest = authenticode(padded(data), algorithm)
         return pkcs7(digest, self.keys.signer(name), algorithm, carried, spoilt)
 
@@ -194,7 +199,7 @@ class Candidates:
         self.add("elliptic", self.own("elliptic"))
         garbage = b"X" * 248
         for name, kind in (("type-unknown", 0xEF0), ("type-garbage", PKCS7_ENTRY)):
-            self.add(name, lambda data, kind=kind: with_table(data, (kind, garbage)), "list digest")
+            self.add(name, with_entry(kind, garbage), "list digest")
         self.add("type-guid", lambda data: with_table(
             data, (GUID_ENTRY, PKCS7_GUID + self.entry(data, "listed"))
         ))

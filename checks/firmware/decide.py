@@ -1,6 +1,6 @@
-"""decide.py PROGRAM: makes the candidates and a desk, boots firmware and shim, and compares what
-they decide with decisions.tsv; see ../firmware.sh. The working directory has the code of loader and
-candidates, and shim's source in `shim`."""
+"""checks.firmware.decide PROGRAM: makes the candidates and a desk, boots firmware and shim, and
+compares what they decide with decisions.tsv; see ../firmware.sh. The working directory has the code
+of loader and candidates, and shim's source in `shim`."""
 from __future__ import annotations
 
 import hashlib
@@ -9,16 +9,17 @@ import shutil
 import sys
 import time
 from concurrent.futures import ThreadPoolExecutor
+from pathlib import Path
 from typing import Dict, List, NamedTuple
 
-from boots import AUTHENTICATED, KEK, KEK_KEY, OWNER, Boot, update
-from candidates import Candidates
-from desks import GIVEN, LISTED, MISSING, REVOKED, Exports, Program, decide, fail
-from keys import Keys, Tools, run
-from page import typed
-
-# (the folder of this module is in the path since `desks`)
-from desk import X509_KIND, certificate_list, digest_list, signature_list  # noqa: E402
+from checks.firmware.boots import AUTHENTICATED, KEK, KEK_KEY, OWNER, Boot, update
+from checks.firmware.candidates import Candidates
+from checks.firmware.desks import GIVEN, LISTED, MISSING, REVOKED, Exports, decide
+from checks.firmware.keys import Keys, Tools, run
+from checks.firmware.page import typed
+from checks.support.images import X509_KIND, certificate_list, digest_list, signature_list
+from checks.support.program import Program
+from checks.support.says import fail
 
 # What has to be typed of INTEROPERATION, besides shim's build.
 TITLES = (
@@ -78,7 +79,8 @@ def firmware_volume(
         boot.write(f"{name}.auth", content(f"{name}.auth"))
     update("db", exports.elliptic, "firmware/elliptic.auth", "2030-01-01 00:00:00")
     for count, stamp in ((ROOM, "2030-01-01 00:00:00"), (ROOM + 1, "2030-01-02 00:00:00")):
-        lines = "".join(f"{hashlib.sha256(str(it).encode()).hexdigest()}\n" for it in range(count))
+        digests = (hashlib.sha256(str(number).encode()).hexdigest() for number in range(count))
+        lines = "".join(f"{digest}\n" for digest in digests)
         packed = program.gives("pack", OWNER, given=lines.encode())
         update("dbx", packed, f"firmware/{count}.auth", stamp)
     boot.steps("plan", [
@@ -101,13 +103,13 @@ def firmware_decided(boot: Boot, candidates: Candidates) -> None:
         boot.sets(name, f"/{name}.auth")
         if boot.variable(name) != content(f"{name}.esl"):
             fail(f"{name} in firmware isn't the desk's")
-    names = [it.name for it in candidates.all]
+    names = [one.name for one in candidates.all]
     passed = [name for name in names if boot.status("load", f"none:{name}") != "denied"]
     if passed:
         fail(f"firmware loads without the desk's lists: {passed}")
     boot.sets("dbx", f"/{ROOM}.auth")
     for name, path in (("db", "/elliptic.auth"), ("dbx", f"/{ROOM + 1}.auth")):
-        if any(it.rest == path and it.status == "0" * 16 for it in boot.lines):
+        if any(one.rest == path and one.status == "0" * 16 for one in boot.lines):
             fail(f"firmware takes {path}")
 
 
@@ -137,7 +139,7 @@ def shim_volume(name: str, candidates: Candidates, tools: Tools) -> Boot:
         boot.write("EFI/check/revocations_sbat.efi", content("revocations_sbat.efi"))
     start = "try shim /EFI/check/shimx64.efi"
     boot.steps("plan", [f"set db d {AUTHENTICATED} /db.auth", *level, start])
-    steps = [f"{word} {it} {path}" for it, path in boot.names for word in ("verify", "try")]
+    steps = [f"{word} {one} {path}" for one, path in boot.names for word in ("verify", "try")]
     boot.steps("shimplan", ["get SbatLevel s", *steps])
     return boot
 
@@ -159,12 +161,12 @@ def table() -> List[Row]:
 
 def differs(verdict: str, *decisions: str) -> bool:
     """Whether one of them doesn't go with the desk's verdict."""
-    return any((it in ("runs", "loads")) != (verdict == "allowed") for it in decisions)
+    return any((one in ("runs", "loads")) != (verdict == "allowed") for one in decisions)
 
 
 def compare(found: List[Row]) -> int:
     """How many rows aren't the table's, or lack a cause; each is printed as it would be there."""
-    wanted = {it.name: it for it in table()}
+    wanted = {one.name: one for one in table()}
     wrong = 0
     for row in found:
         was = wanted.pop(row.name, Row(row.name, *[""] * 8))
@@ -183,10 +185,10 @@ def whole(keys: Keys, candidates: Candidates, shim: bytes) -> None:
     """The lists have all that was revoked: no decision tells of some, as by SHA-384 signatures."""
     images = digest_list(sorted(candidates.revoked))
     certificates = sorted(REVOKED, key=keys.tbs)
-    bodies = [keys.certificates[it] for it in certificates if it in (*LISTED, *GIVEN)]
-    bare = [keys.tbs(it) for it in certificates if it not in (*LISTED, *GIVEN)]
-    one_each = b"".join(signature_list(X509_KIND, [it]) for it in bodies)
-    if content("dbx.esl") != images + certificate_list([keys.tbs(it) for it in certificates]):
+    bodies = [keys.certificates[one] for one in certificates if one in (*LISTED, *GIVEN)]
+    bare = [keys.tbs(one) for one in certificates if one not in (*LISTED, *GIVEN)]
+    one_each = b"".join(signature_list(X509_KIND, [one]) for one in bodies)
+    if content("dbx.esl") != images + certificate_list([keys.tbs(one) for one in certificates]):
         fail("dbx isn't what was revoked")
     if shim != images + one_each + certificate_list(bare):
         fail("shim-dbx.esl isn't what was revoked")
@@ -199,8 +201,9 @@ def main() -> None:
     keys = made_keys()
     tools = Tools()
     candidates = Candidates(content("candidate.bin"), keys, tools)
-    program = Program(os.path.realpath(sys.argv[1]))
-    with program, ThreadPoolExecutor(3) as boots:
+    os.mkdir("desks")
+    program = Program(os.path.realpath(sys.argv[1]), Path("desks").resolve())
+    with ThreadPoolExecutor(3) as boots:
         exports = decide(program, keys, candidates)
         program.copied(exports.desk, os.path.abspath("desk.db"))
         for title in TITLES:
@@ -213,12 +216,12 @@ def main() -> None:
             build_shim(program)
             shims[name] = shim_volume(name, candidates, tools)
             running.append(boots.submit(shims[name].run))
-        for it in running:
-            it.result()
+        for boot in running:
+            boot.result()
     firmware_decided(firmware, candidates)
-    for it in shims.values():
-        if it.variable("SbatLevel").rstrip(b"\0") != content("level.csv").rstrip(b"\0"):
-            fail(f"the level of {it.folder}: {it.variable('SbatLevel')!r}")
+    for shim in shims.values():
+        if shim.variable("SbatLevel").rstrip(b"\0") != content("level.csv").rstrip(b"\0"):
+            fail(f"the level of {shim.folder}: {shim.variable('SbatLevel')!r}")
     rows = [
         Row(
             name, "", verdict, firmware.status("load", f"db:{name}"), firmware.decision(name),
@@ -235,9 +238,9 @@ def main() -> None:
 
 def told(rows: List[Row], seconds: float) -> None:
     ways: Dict[str, int] = {
-        "firmware": sum(not differs(it.desk, it.firmware) for it in rows),
-        "shim with dbx": sum(not differs(it.desk, it.dbx) for it in rows),
-        "shim with shim-dbx.esl": sum(not differs(it.desk, it.shim) for it in rows),
+        "firmware": sum(not differs(one.desk, one.firmware) for one in rows),
+        "shim with dbx": sum(not differs(one.desk, one.dbx) for one in rows),
+        "shim with shim-dbx.esl": sum(not differs(one.desk, one.shim) for one in rows),
     }
     said = ", ".join(f"{name} {count}" for name, count in ways.items())
     print(f"{len(rows)} images decided as they have to be, in {seconds:.0f} s; as the desk: {said}")

@@ -3,15 +3,14 @@ from __future__ import annotations
 
 import json
 import os
-import sys
 from typing import Dict, List, NamedTuple
 
-from candidates import COMPONENT, LEVEL, Candidates
-from keys import Keys
-
-ROOT = os.path.dirname(os.path.dirname(os.path.dirname(os.path.realpath(__file__))))
-sys.path.insert(0, os.path.join(ROOT, "checks", "requests"))
-from desk import Program, Server, fail, posted, request, token  # noqa: E402
+from checks.firmware.candidates import COMPONENT, LEVEL, Candidates
+from checks.firmware.keys import Keys
+from checks.support.messages import posted, request, token
+from checks.support.program import Program
+from checks.support.says import fail
+from checks.support.server import Server
 
 LISTED = (
     "snakeoil", "listed", "other", "revoked", "expired", "ca", "ca-gone", "leaf-first", "leaf-last",
@@ -41,7 +40,7 @@ class Calls:
         self.server = server
         self.key = 0
 
-    def post(self, who: str, path: str, body: bytes, *fields: tuple) -> Dict[str, object]:
+    def post(self, who: str, path: str, body: bytes, *fields: tuple[str, str]) -> Dict[str, object]:
         self.key += 1
         key = f"call-{self.key}-{os.path.basename(self.server.desk)}"
         said = self.server.ask(posted(who, key, path, body, *fields))
@@ -63,8 +62,8 @@ class Calls:
 
     def revoke(self, digests: List[str], certificates: List[str]) -> None:
         """One file by one officer, confirmed by another."""
-        rows = ["kind,value,generation", *(f"sha256,{it}," for it in digests)]
-        rows += [*(f"x509_sha256,{it}," for it in certificates), f"sbat,{COMPONENT},{LEVEL}", ""]
+        rows = ["kind,value,generation", *(f"sha256,{one}," for one in digests)]
+        rows += [*(f"x509_sha256,{one}," for one in certificates), f"sbat,{COMPONENT},{LEVEL}", ""]
         stamp = ("Desk-Stamp", str(STAMP))
         made = self.post("olga", "/imports/csv", "\n".join(rows).encode(), stamp)
         self.post("otto", f"/proposals/{made['proposal']}/confirm", b"")
@@ -90,12 +89,12 @@ def decide(program: Program, keys: Keys, candidates: Candidates) -> Exports:
         calls.revoke(sorted(candidates.revoked), [keys.tbs(name) for name in REVOKED])
         for name in GIVEN[1:]:
             calls.unlist(keys.tbs(name))
-        verdicts = {it.name: calls.verdict(it.image) for it in candidates.all}
+        verdicts = {one.name: calls.verdict(one.image) for one in candidates.all}
     # Firmware refuses a db with an elliptic certificate: a copy of the desk lists it.
     elliptic = program.copied(desk, "elliptic.db")
     with Server(program, elliptic) as server:
         calls = Calls(server)
         calls.list_certificate(keys.certificates["elliptic"])
-        image = next(it.image for it in candidates.all if it.name == "elliptic")
+        image = next(one.image for one in candidates.all if one.name == "elliptic")
         verdicts["elliptic"] = calls.verdict(image)
     return Exports(desk, program.gives("db", elliptic), verdicts)

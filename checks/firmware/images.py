@@ -98,7 +98,7 @@ def image(code: bytes, shape: Shape) -> bytes:
 class Fields(NamedTuple):
     optional: int  # where the optional header begins
     sections: int  # where the section table begins
-    count: int
+    many: int
     entry: int  # where the certificate table's entry is; 0: there is none
 
 
@@ -124,7 +124,7 @@ def authenticode(data: bytes, algorithm: str = "sha256") -> bytes:
     else:
         hashed.update(data[at.optional + 68 : headers])
     total = headers
-    places = (struct.unpack_from("<II", data, at.sections + 40 * n + 16) for n in range(at.count))
+    places = (struct.unpack_from("<II", data, at.sections + 40 * n + 16) for n in range(at.many))
     for place, size in sorted((place, size) for size, place in places if size):
         hashed.update(data[place : place + size])
         total += size
@@ -181,10 +181,10 @@ ALGORITHMS = {
 RSA = der(0x30, bytes.fromhex("06092a864886f70d010101"), b"\5\0")
 ECDSA = der(0x30, bytes.fromhex("06082a8648ce3d040302"))
 SIGNED_DATA, CONTENT_TYPE, MESSAGE_DIGEST = (
-    bytes.fromhex(f"06092a864886f70d01{it}") for it in ("0702", "0903", "0904")
+    bytes.fromhex(f"06092a864886f70d01{one}") for one in ("0702", "0903", "0904")
 )
 SPC_INDIRECT_DATA, SPC_PE_IMAGE_DATA = (
-    bytes.fromhex(f"060a2b0601040182370201{it}") for it in ("04", "0f")
+    bytes.fromhex(f"060a2b0601040182370201{one}") for one in ("04", "0f")
 )
 
 

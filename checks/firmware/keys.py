@@ -8,7 +8,7 @@ import tempfile
 from concurrent.futures import ThreadPoolExecutor
 from typing import Callable, Dict
 
-from images import Signer, tbs
+from checks.firmware.images import Signer, tbs
 
 CONFIG = """
 [req]

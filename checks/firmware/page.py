@@ -6,14 +6,15 @@ import os
 import subprocess
 from typing import Dict
 
-from desks import ROOT, fail
+from checks.support.says import fail
+from checks.support.tools import ROOT
 
 SHIM_SECONDS = 900  # of shim's build, at most; on an idle machine it takes half a minute
 
 
 def printed(title: str) -> str:
     """The commands below this title of the page."""
-    with open(os.path.join(ROOT, "docs", "INTEROPERATION.md"), encoding="utf-8") as page:
+    with open(ROOT / "docs" / "INTEROPERATION.md", encoding="utf-8") as page:
         parts = page.read().split(f"\n## {title}\n")
     if len(parts) != 2:
         fail(f"INTEROPERATION has {len(parts) - 1} parts `{title}`")

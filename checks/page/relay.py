@@ -1,23 +1,28 @@
-"""Stands between nginx and a desk, and loses answers: the desk has acted, and nobody hears of it."""
+"""Stands between nginx and a desk, and loses answers: the desk has acted, and nobody hears of
+it."""
+from __future__ import annotations
+
 import http.client
 import socketserver
 import threading
 from http.server import BaseHTTPRequestHandler
-from typing import Any, List
+from typing import Any, Callable
 
-# What is done to a command: its answer is lost at once, or once the connection is closed from elsewhere; or it gets the answer of a
-# proxy that is being changed, and never comes to the desk.
-LOSE, HOLD, NOT_FOUND = "lose", "hold", "not found"
+# What is done to a command: its answer is lost at once, or once the connection is closed from
+# elsewhere; it gets the answer of a proxy that is being changed, and never comes to the desk; or
+# it and all behind it go to another desk.
+LOSE, HOLD, NOT_FOUND, SWITCH = "lose", "hold", "not found", "switch"
 
 
 class Relay(socketserver.ThreadingTCPServer):
-    daemon_threads = True
-    allow_reuse_address = True
+    daemon_threads = allow_reuse_address = True
 
     def __init__(self, desk_port: int) -> None:
-        self.desk_port = desk_port
+        self.desk_port = self.other_port = desk_port
+        # What it answers a reader itself, by the path.
+        self.shows: Callable[[str], bytes | None] = lambda path: None
         # What is done to the next commands, in turn; all others pass.
-        self.plan: List[str] = []
+        self.plan: list[str] = []
         # A command's answer is here, and is held.
         self.held = threading.Event()
         super().__init__(("127.0.0.1", 0), Handler)
@@ -28,14 +33,19 @@ class Relay(socketserver.ThreadingTCPServer):
 
     @property
     def port(self) -> int:
-        return self.server_address[1]
+        return int(self.server_address[1])
+
+    def end(self) -> None:
+        self.shutdown()
+        self.server_close()
 
 
 class Handler(BaseHTTPRequestHandler):
     server: Relay
 
     def do_GET(self) -> None:
-        self.passes()
+        shown = self.server.shows(self.path)
+        return self.passes() if shown is None else self.gives(200, [], shown)
 
     def do_POST(self) -> None:
         deed = self.server.plan.pop(0) if self.server.plan else ""
@@ -43,12 +53,15 @@ class Handler(BaseHTTPRequestHandler):
             self.rfile.read(int(self.headers.get("Content-Length", 0)))
             self.send_error(404)
             return
+        if deed == SWITCH:
+            self.server.desk_port = self.server.other_port
         self.passes(deed)
 
     def passes(self, deed: str = "") -> None:
         body = self.rfile.read(int(self.headers.get("Content-Length", 0)))
         desk = http.client.HTTPConnection("127.0.0.1", self.server.desk_port, timeout=120)
-        fields = {name: value for name, value in self.headers.items() if name.lower() not in ("host", "connection")}
+        own = ("host", "connection")
+        fields = {name: value for name, value in self.headers.items() if name.lower() not in own}
         desk.request(self.command, self.path, body if self.command == "POST" else None, fields)
         answer = desk.getresponse()
         given = answer.read()
@@ -57,13 +70,16 @@ class Handler(BaseHTTPRequestHandler):
             self.server.held.set()
             # (nginx closes it as it ends)
             self.connection.recv(1)
-        if deed:
+        if deed in (HOLD, LOSE):
             return
-        self.send_response_only(answer.status, answer.reason)
-        for name, value in answer.getheaders():
+        self.gives(answer.status, answer.getheaders(), given)
+
+    def gives(self, status: int, fields: list[tuple[str, str]], body: bytes) -> None:
+        self.send_response_only(status)
+        for name, value in fields or [("Content-Length", str(len(body)))]:
             self.send_header(name, value)
         self.end_headers()
-        self.wfile.write(given)
+        self.wfile.write(body)
 
     def log_message(self, *_: Any) -> None:
         pass

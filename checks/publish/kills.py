@@ -1,20 +1,26 @@
-"""kills.py STOP FOLDER PROGRAM WORD..: runs the Python program, and kills it before its STOPth step: a file below FOLDER that it
-opens, makes, renames, links or removes, or a program that it starts."""
+"""kills.py STOP FOLDER PROGRAM WORD..: runs the Python program, and kills it before its STOPth
+step: a file below FOLDER that it opens, makes, renames, links or removes, or a program that it
+starts."""
+from __future__ import annotations
+
 import os
 import runpy
 import signal
 import sys
 
-stop, folder = int(sys.argv[1]), sys.argv[2]
-STEPS = {"open", "os.mkdir", "os.rename", "os.symlink", "os.chmod", "os.remove", "os.rmdir", "subprocess.Popen"}
-steps = 0
+STOP, FOLDER = int(sys.argv[1]), sys.argv[2]
+STEPS = {
+    "open", "os.mkdir", "os.rename", "os.symlink", "os.chmod", "os.remove", "os.rmdir",
+    "subprocess.Popen",
+}
+taken: list[str] = []
 
 
-def look(event, words):
-    global steps
-    if event in STEPS and (event == "subprocess.Popen" or any(isinstance(word, str) and word.startswith(folder) for word in words)):
-        steps += 1
-        if steps == stop:
+def look(event: str, words: tuple[object, ...]) -> None:
+    below = any(isinstance(one, str) and one.startswith(FOLDER) for one in words)
+    if event == "subprocess.Popen" or event in STEPS and below:
+        taken.append(event)
+        if len(taken) == STOP:
             os.kill(os.getpid(), signal.SIGKILL)
 
 

@@ -1,0 +1,59 @@
+"""What deskctl asks before a vote, a withdrawal, a return and a drop, by
+page/wire/cases/questions.json."""
+from __future__ import annotations
+
+from typing import Any
+
+import pytest
+
+from checks.support.cases import row_bytes
+from checks.support.wire import wire
+from kovelamiru.answers import Request
+from kovelamiru.certificates import certificate_in
+from kovelamiru.pkcs7 import signatures_of
+from kovelamiru.questions import QUESTIONS, carried_question, plain_question, yes_question
+from kovelamiru.standing import Standing
+
+CASES: dict[str, Any] = wire("cases/questions")
+NOW = Standing(
+    level=CASES["level"],
+    revoked_digests=set(CASES["revoked"]["digests"]),
+    revoked_certificates=set(CASES["revoked"]["certificates"]),
+)
+
+
+def request_of(case: dict[str, Any]) -> Request:
+    votes = [{"vote": vote, "reviewer": "raul", "note": ""} for vote in case.get("votes", [])]
+    return Request(
+        7, "open", "ann", "a loader", 512, "", case.get("digest", ""), case.get("signing", ""), 0,
+        case.get("carried", []), case.get("components", []), None, votes,
+    )
+
+
+@pytest.mark.parametrize("case", CASES["yes"], ids=[one["name"] for one in CASES["yes"]])
+def test_a_yes_asks_about_what_is_odd_and_what_stays(case: dict[str, Any]) -> None:
+    found = yes_question(request_of(case), NOW, case.get("another", False))
+    assert list(found) == case["asks"]
+    for name, line in found.items():
+        due = QUESTIONS["yes"][name].replace("{why}", case.get("why", ""))
+        assert line == due.replace("{number}", "7")
+
+
+@pytest.mark.parametrize("name", ["no", "withdraw", "drop"])
+def test_what_cant_be_taken_back_is_asked_about(name: str) -> None:
+    told = " ".join(plain_question(name, 7))
+    assert " 7 " in told and "{" not in told
+
+
+LOOKS: dict[str, Any] = wire("cases/looks")
+SIGNED = {one["name"]: row_bytes(LOOKS["parts"], one["bytes"]) for one in LOOKS["signatures"]}
+
+
+@pytest.mark.parametrize("case", CASES["returns"], ids=[one["name"] for one in CASES["returns"]])
+def test_a_return_asks_where_no_listed_signer_is_named(case: dict[str, Any]) -> None:
+    bodies = [certificate_in(row_bytes(LOOKS["parts"], LOOKS["parts"][one]))
+              for one in case["listed"]]
+    now = Standing(certificates={one.tbs: one for one in bodies if one})
+    assert len(now.certificates) == len(case["listed"])
+    said = carried_question(signatures_of(SIGNED[case["signature"]]), now)
+    assert (said is not None) == (case["asks"] == ["carried"]), said

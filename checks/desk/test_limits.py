@@ -1,0 +1,237 @@
+"""The limits of docs/FORMATS.md: at each the greatest that is allowed is taken, and one more
+refused.
+
+Over HTTP, and on the command line where there is a subcommand for it: levels and imports; names,
+tokens, keys, titles, notes and numbers; bodies and parts of the minutes. Memory is ample, so
+nothing is NoMemory. Limits of heads are in test_cuts.py, of images in test_limits_of_images.py, and
+full desks in test_full_desks.py."""
+from __future__ import annotations
+
+from typing import NamedTuple, Sequence
+
+import pytest
+
+from checks.conftest import NewDesk
+from checks.support.fillings import csv, level, sbat_rows
+from checks.support.images import (
+    CERTIFICATE, PLAIN, STORED, X509_KIND, certificate_list, digest, digest_list, sha256,
+    signature_list
+)
+from checks.support.largest import MANY, der
+from checks.support.messages import (Field, line, octets, ok, posted, refused, request, text, token)
+from checks.support.program import Program
+from checks.support.server import serves
+from checks.support.steps import (
+    Component, Step, confirms, drops, impact, named, proposes, raising, reads, refuses, submits,
+    takes, too_large, vote, whole
+)
+
+BODY_LIMIT = 4_194_304
+
+
+# ---- imports
+
+
+def skipped(count: int) -> bytes:
+    """One list of so many entries of another type."""
+    return signature_list(STORED, [bytes.fromhex(one) for one in MANY[:count]])
+
+
+TEN, STAMP = 10_000, ("Desk-Stamp", "2024010100")
+NAMES_128 = sbat_rows(TEN, 4294967295, 128)
+ONE = digest_list(MANY[:1])
+
+
+class Import(NamedTuple):
+    """An import of 10,000 entries, and one of an entry more; what the first names, and how often it
+    passes one."""
+
+    path: str
+    body: bytes
+    longer: bytes
+    digests: Sequence[str] = ()
+    certificates: Sequence[str] = ()
+    components: Sequence[Component] = ()
+    fields: Sequence[Field] = ()
+    passed: int = 0
+
+
+def components(rows: list[str]) -> list[Component]:
+    return [(name, int(generation)) for name, generation in (row.split(",") for row in rows)]
+
+
+IMPORTS = {
+    "digests": Import("/imports/dbx", digest_list(MANY[:TEN]), digest_list(MANY), MANY[:TEN]),
+    "certificates": Import(
+        "/imports/dbx", certificate_list(MANY[:TEN]), certificate_list(MANY),
+        certificates=MANY[:TEN],
+    ),
+    "entries that are skipped": Import(
+        "/imports/dbx", ONE + skipped(TEN - 1), ONE + skipped(TEN), MANY[:1], passed=TEN - 1
+    ),
+    "records": Import(
+        "/imports/csv", csv([f"sha256,{one}," for one in MANY[:TEN]]),
+        csv([f"x509_sha256,{one}," for one in MANY]), MANY[:TEN],
+    ),
+    "records with names of 128 bytes": Import(
+        "/imports/csv", csv([f"sbat,{row}" for row in NAMES_128]),
+        csv([f"sbat,{row}" for row in sbat_rows(TEN + 1, 2, 128)]),
+        components=components(NAMES_128), fields=(STAMP,),
+    ),
+    "lines of a level": Import(
+        "/imports/level", level(sbat_rows(TEN, 7)), level(sbat_rows(TEN + 1, 7)),
+        components=components(sbat_rows(TEN, 7)),
+    ),
+}
+
+
+@pytest.mark.long(30)
+@pytest.mark.parametrize("what", IMPORTS)
+def test_an_import_of_10_000_entries_is_confirmed_and_one_of_10_001_changes_nothing(
+    desk: Program, new_desk: NewDesk, what: str
+) -> None:
+    one = IMPORTS[what]
+    counts = len(one.digests), len(one.certificates), len(one.components)
+    dbx = digest_list(one.digests) + certificate_list(one.certificates)
+    names = one.digests, one.certificates, one.components
+    stamp = 2024010100 if one.components else None
+    shown = whole(1, "olga", "import", "open", *names, stamp=stamp, passed=one.passed)
+    steps = [
+        refuses(13, "olga", "k1", one.path, one.longer, *one.fields),
+        reads("olga", "/proposals", ok([])),
+        proposes("olga", "k1", one.path, one.body, 1, *one.fields),
+        reads("otto", "/proposals/1", ok(shown)),
+        reads("otto", "/proposals/1/impact", ok(impact(1, [], len(dbx), *counts))),
+        confirms("otto", "k1", 1, *counts, one.passed),
+        reads("ann", "/dbx", octets(dbx)),
+    ]
+    if one.components:
+        rows = level([f"{name},{most}" for name, most in one.components])
+        steps.append(reads("ann", "/level", text(rows.decode())))
+    serves(desk, new_desk(), steps, f"10,000 {what}", ends=False)
+
+
+# ---- texts
+
+LONGEST_NAME, LONGEST_KEY = "n" * 32, "k" * 64
+
+
+@pytest.mark.parametrize(
+    "name, key, secret, bad",
+    [
+        (LONGEST_NAME, LONGEST_KEY, "t" * 128, None), ("n", "k", "s" * 16, None),
+        (LONGEST_NAME + "n", LONGEST_KEY, "u" * 128, "NAME"),
+        (LONGEST_NAME, LONGEST_KEY + "k", "u" * 128, "KEY"),
+        (LONGEST_NAME, LONGEST_KEY, "u" * 129, "TOKEN"),
+        (LONGEST_NAME, LONGEST_KEY, "u" * 15, "TOKEN"),
+    ],
+    ids=["longest", "shortest", "a longer name", "a longer key", "a longer token", "a short token"],
+)
+def test_a_person_has_a_name_a_key_and_a_token_within_their_limits(
+    desk: Program, new_desk: NewDesk, name: str, key: str, secret: str, bad: str | None
+) -> None:
+    path = new_desk()
+    due = (0, f"added {name}\n".encode(), b"")
+    if bad:
+        due = (2, b"", f"bad {bad}\n".encode())
+    desk.ends(*due, "person", path, name, "officer", key, given=f"{secret}\n".encode())
+    if bad != "TOKEN":
+        hashed = f"{sha256(secret.encode())}\n".encode()
+        desk.ends(*due, "enrol", path, name, "officer", key, given=hashed)
+
+
+def test_numbers_ports_and_counts_of_the_command_line_have_their_limits(
+    desk: Program, new_desk: NewDesk
+) -> None:
+    path, missing = new_desk(), desk.at("missing.db")
+    desk.ends(1, b"", line(37), "impact", path, "999999")
+    desk.ends(2, b"", b"bad NUMBER\n", "impact", path, "1000000")
+    desk.ends(3, b"", b"device 45 File\n", "serve", missing, "65535", "1000000")
+    desk.ends(2, b"", b"bad PORT\n", "serve", missing, "65536", "1000000")
+    desk.ends(2, b"", b"bad COUNT\n", "serve", missing, "65535", "1000001")
+
+
+def title(length: int) -> Field:
+    return ("Desk-Title", "t" * length)
+
+
+def certificate(size: int) -> bytes:
+    """A certificate of so many bytes."""
+    return der(0x30, CERTIFICATE[2:].ljust(size - 6, b"\0"))
+
+
+def by(secret: str, path: str) -> bytes:
+    return request("GET", path, [("Desk-Token", secret)])
+
+
+AA, BB = named(digest("aa")), named(digest("bb"))
+
+
+def with_length(length: str) -> bytes:
+    """A revocation of BB whose length is spelled so."""
+    fields = [("Desk-Token", token("olga")), ("Desk-Key", "k2"), ("Content-Length", length)]
+    return request("POST", "/dbx/digests", fields) + BB
+
+
+def texts() -> list[Step]:
+    """Tokens, keys, bodies, titles and notes."""
+    longest = [("Desk-Token", "t" * 128), ("Desk-Key", LONGEST_KEY)]
+    by_longest = request("POST", "/dbx/digests", longest, AA)
+    filled_drop = posted("olga", "k5", "/proposals/4/drop", bytes(BODY_LIMIT))
+    level_text = text("sbat,1,2021030218\n")
+    reviewed: dict[str, object] = {"reply": "reviewed", "request": 1, "state": "open"}
+    return [
+        Step(by("t" * 128, "/level"), level_text),
+        Step(by("s" * 16, "/level"), level_text),
+        Step(by("t" * 129, "/level"), refused(20)),
+        Step(by_longest, ok({"proposal": 1, "reply": "proposed"})),
+        reads("olga", "/proposals/1", ok(whole(1, LONGEST_NAME, "digest", "open", [digest("aa")]))),
+        refuses(51, "olga", LONGEST_KEY + "k", "/dbx/digests", BB),
+        Step(with_length(f"{len(BB):011}"), refused(51)),
+        Step(with_length(f"{len(BB):010}"), ok({"proposal": 2, "reply": "proposed"})),
+        # (a body that is longer than a hundred bytes, and one at its limit)
+        proposes("olga", "k3", "/dbx/digests", named(digest("cc")).ljust(400), 3),
+        proposes("olga", "k4", "/dbx/digests", named(digest("dd")).ljust(BODY_LIMIT), 4),
+        too_large("olga", "k5", "/dbx/digests", BODY_LIMIT + 1),
+        drops("olga", "k5", 4)._replace(given=filled_drop),
+        too_large("olga", "k6", "/proposals/3/drop", BODY_LIMIT + 1),
+        submits("ann", LONGEST_KEY, PLAIN, "t" * 120, 1),
+        refuses(51, "ann", "k2", "/requests", PLAIN, title(121)),
+        refuses(51, "ann", "k2", "/requests", PLAIN, title(0)),
+        takes("rita", "k1", "/requests/1/review", vote("yes", "n" * 200), reviewed),
+        refuses(52, "raul", "k1", "/requests/1/review", vote("yes", "n" * 201)),
+    ]
+
+
+def numbers() -> list[Step]:
+    """Numbers, components and certificates, at a desk with those texts."""
+    component = "n" * 128
+    return [
+        *(reads("ann", f"/requests/{number}", refused(23)) for number in (999999, 1000000)),
+        *(reads("olga", f"/proposals/{number}", refused(37)) for number in (999999, 1000000)),
+        reads("olga", "/minutes/9999999", text("")),
+        reads("olga", "/minutes/10000000", refused(53)),
+        refuses(52, "olga", "k6", "/level", raising(component, 4294967296, 2024010100)),
+        refuses(52, "olga", "k6", "/level", raising(component + "n", 1, 2024010100)),
+        refuses(52, "olga", "k6", "/level", raising(component, 1, 10_000_000_000)),
+        refuses(52, "olga", "k6", "/level", raising(component, 1, 999_999_999)),
+        refuses(
+            51, "olga", "k6", "/imports/csv", csv([f"sbat,{component},1"]),
+            ("Desk-Stamp", "20240101000"),
+        ),
+        proposes("olga", "k6", "/level", raising(component, 4294967295, 9_999_999_999), 5),
+        confirms("otto", "k1", 5, 0, 0, 1, 0),
+        reads("ann", "/level", text(f"sbat,1,9999999999\n{component},4294967295\n")),
+        refuses(13, "olga", "k7", "/db/certificates", certificate(65_537)),
+        takes("olga", "k7", "/db/certificates", certificate(65_536), {"reply": "listed"}),
+        reads("ann", "/db", octets(signature_list(X509_KIND, [certificate(65_536)]))),
+    ]
+
+
+def test_texts_and_numbers_over_http_have_their_limits(desk: Program, new_desk: NewDesk) -> None:
+    """Each at its most and one more; names are those of the command line."""
+    path = new_desk()
+    for name, secret in ((LONGEST_NAME, "t" * 128), ("n", "s" * 16)):
+        given = f"{secret}\n".encode()
+        desk.gives("person", path, name, "officer", f"k-{secret[0]}", given=given)
+    serves(desk, path, [*texts(), *numbers()], "texts and numbers", ends=False)

@@ -1,0 +1,185 @@
+"""That the documents name nothing that isn't there, and that the tree has nothing that `rt ci`
+refuses at sight. Proves nothing and runs no program: it reads the sources.
+
+A claim of docs/PROVED.md is a row of a table that begins `| Call | Clause |`. Its first cell has
+calls, each with its crate in front (`desk_store::Desk::open`), and its second the names of clauses,
+in backticks; an empty second cell stands for a clause without a name. The row claims every one of
+these clauses of every one of these calls."""
+from __future__ import annotations
+
+import os
+import re
+from pathlib import Path
+from typing import Iterator
+
+import pytest
+
+from checks.clauses.clauses import calls_of, crates
+from checks.support.tools import ROOT, ran
+from docs.print import lacking
+
+WORD = re.compile("[A-Za-z_][A-Za-z_0-9]*")
+TESTS = (ROOT / "docs" / "TESTS.md").read_text(encoding="utf-8")
+
+
+def text_of(name: str | Path) -> str:
+    return (ROOT / name).read_text(encoding="utf-8")
+
+
+def quoted(text: str) -> list[str]:
+    """What stands in backticks."""
+    return re.findall("`([^`]+)`", text)
+
+
+def holds(looked_at: object, missing: list[str], what: str) -> None:
+    """Something was looked at (no heading and no form has changed), and nothing is missing."""
+    assert looked_at, f"no {what} is found"
+    assert not missing, "\n".join(missing)
+
+
+# ---- docs/PROVED.md and docs/print.py
+
+
+def claims() -> Iterator[tuple[int, list[str], list[str]]]:
+    """Each row that claims: the number of its line, its calls, its clauses."""
+    inside = False
+    for number, line in enumerate(text_of("docs/PROVED.md").splitlines(), 1):
+        if line.startswith("| Call | Clause"):
+            inside = True
+        elif not line.startswith("|"):
+            inside = False
+        elif inside and not line.startswith("|---"):
+            calls, clauses = map(quoted, re.split(r"(?<!\\)\|", line)[1:3])
+            yield number, calls, clauses
+
+
+def test_each_row_of_proved_names_clauses_of_calls_that_a_crate_offers() -> None:
+    offered = {crate: calls_of(crate, ROOT) for crate in crates(ROOT)}
+    rows, missing = [*claims()], []
+    for number, calls, clauses in rows:
+        missing += [f"line {number}: a row without a call"] * (not calls)
+        for call in calls:
+            crate, _, name = call.partition("::")
+            found = offered.get(crate, {}).get(name)
+            if found is None:
+                missing.append(f"line {number}: no crate offers {call}")
+                continue
+            ensured = [one.name for one in found if one.kind == "ensures"]
+            missing += [
+                f"line {number}: {call} has no clause {clause or 'without a name'}"
+                for clause in clauses or [""] if clause not in ensured
+            ]
+    holds(rows, missing, "row of docs/PROVED.md")
+
+
+def test_each_clause_definition_and_sql_text_is_printed_with_its_comment() -> None:
+    assert lacking() == []
+
+
+# ---- the pages of crates, and docs/DECISIONS.md
+
+
+def test_each_word_that_a_readme_says_a_contract_sees_is_in_a_source() -> None:
+    sources = [
+        path for folder in ("src", "specs") for suffix in ("rt", "antt")
+        for path in ROOT.glob(f"crates/*/{folder}/**/*.{suffix}")
+    ]
+    known = {word for path in sources for word in WORD.findall(text_of(path))}
+    words, missing = 0, []
+    for path in sorted(ROOT.glob("crates/*/README.md")):
+        page = text_of(path).partition("\n## What a contract sees\n")[2].partition("\n## ")[0]
+        for entry in re.findall(r"^- (.*?)(?::\s|\Z)", page, re.M | re.S):
+            for word in WORD.findall(" ".join(quoted(entry))):
+                words += 1
+                if word not in known:
+                    missing.append(f"{path.relative_to(ROOT)}: no source has {word}")
+    holds(words, missing, "word of what a contract sees")
+
+
+def items_of(decisions: str) -> set[str]:
+    """The items, and those in the table of items that moved."""
+    moved = decisions.split("\n## Moved or gone\n", 1)[1]
+    rows = [row.split("|")[1] for row in re.findall(r"^\|.*", moved, re.M)]
+    items = {*re.findall(r"^\*\*([0-9]+)\. ", decisions, re.M)}
+    items |= {*re.findall(r"\b[0-9]+\b", " ".join(rows))}
+    for first, last in re.findall(r"\b([0-9]+) to ([0-9]+)\b", moved):
+        items |= {str(number) for number in range(int(first), int(last) + 1)}
+    return items
+
+
+def test_each_item_that_a_page_or_an_item_cites_stands_in_decisions() -> None:
+    decisions = text_of("docs/DECISIONS.md")
+    cited = {
+        ("docs/DECISIONS.md", number)
+        for group in re.findall(r"\(([0-9]+(?:, [0-9]+)*)\)", decisions)
+        for number in group.split(", ")
+    }
+    for path in ROOT.rglob("*.md"):
+        for number in re.findall(r"DECISIONS(?:\.md)?[ ,]+([0-9]+)", text_of(path)):
+            cited.add((str(path.relative_to(ROOT)), number))
+    items = items_of(decisions)
+    missing = [f"{path} cites {no}" for path, no in sorted(cited) if no not in items]
+    holds(cited, missing, "cited item")
+
+
+# ---- docs/TESTS.md
+
+
+def test_each_test_of_a_crate_that_tests_md_names_is_there() -> None:
+    """It is a word with two underscores or more."""
+    tests = {
+        name for path in ROOT.glob("crates/tests_*/src/**/*.rt")
+        for name in re.findall(r"\bfn ([a-z_0-9]+)", text_of(path))
+    }
+    named = [one for one in quoted(TESTS) if re.fullmatch("[a-z0-9]+(_[a-z0-9]+){2,}", one)]
+    holds(named, [name for name in named if name not in tests], "test of a crate")
+
+
+# ---- the files of checks/ that pages name
+
+
+def test_each_file_of_checks_that_a_page_names_is_there() -> None:
+    pages = {*ROOT.rglob("*.md")}
+    named = {
+        (str(path.relative_to(ROOT)), name) for path in pages
+        for name in re.findall(r"\bchecks/([a-z0-9_./*-]*[a-z0-9_/*])(?![A-Z])", text_of(path))
+    }
+    missing = [
+        f"{page}: there is no checks/{name}" for page, name in sorted(named)
+        if not [*(ROOT / "checks").glob(name)]
+    ]
+    holds(named, missing, "file of checks/ in a page")
+
+
+def test_tests_md_names_what_is_there_and_each_program_and_folder() -> None:
+    """A folder by its tests, and a program that somebody runs."""
+    own = {path for path in (ROOT / "checks").rglob("*.*") if "__pycache__" not in path.parts}
+    names = {path.name for path in own}
+    named = {*re.findall(r"[\w-]+\.(?:sh|py)\b", TESTS)}
+    missing = [f"there is no {name}" for name in sorted(named - names - {"print.py"})]
+    programs = {path.name for path in own if path.suffix in (".sh", ".py") and is_run(path)}
+    missing += [f"nothing of {name}" for name in sorted(programs - named - {"common.sh"})]
+    tests = {path.relative_to(ROOT / "checks").parts for path in own if path.match("test_*.py")}
+    folders = {parts[0] for parts in tests if len(parts) > 1}
+    missing += [f"nothing of {one}/" for one in sorted(folders) if not told_of(one)]
+    holds(programs and folders, missing, "program or folder of checks/")
+
+
+def is_run(path: Path) -> bool:
+    return os.access(path, os.X_OK)
+
+
+def told_of(folder: str) -> bool:
+    return f"`{folder}/" in TESTS or f"checks/{folder}" in TESTS
+
+
+# ---- the tree
+
+
+@pytest.mark.needs("git")
+def test_no_symbolic_link_is_tracked() -> None:
+    """`rt ci` refuses a tree with one in its first second."""
+    listed = ran("git", "-C", ROOT, "ls-files", "-s").decode()
+    rows = [line.split("\t", 1) for line in listed.splitlines()]
+    links = [f"{path} is a symbolic link" for about, path in rows if about.startswith("120000 ")]
+    holds(rows, links, "tracked file")

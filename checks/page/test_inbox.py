@@ -1,0 +1,95 @@
+"""The first view: what waits for each role, what changed of one's own, and the count of both in the
+window's title and at the view's link."""
+from __future__ import annotations
+
+import pytest
+
+from checks.page.conftest import shots
+from checks.page.looked import looked
+from checks.page.site import Site, unsigned
+from checks.support.browser import Browser
+from checks.support.messages import token
+from checks.support.says import expect
+from checks.support.waits import until
+
+LOOK = "module.look(true).then(({ kind }) => kind)"
+
+
+def looks_again(browser: Browser) -> None:
+    expect(browser.module("desk/waiting.js", LOOK), "value", "what a look gives")
+
+
+def is_counted(browser: Browser, title: str, count: str) -> None:
+    """The window's title, and the count at the link of the first view."""
+
+    def shown() -> tuple[str, str]:
+        return browser.driver.title, browser.texts("#views a")[0]
+
+    due = (f"{title} · Kovelamiru", f"For you {count}".strip())
+    until(20, f"the title and the link {due}", lambda: shown() == due, lambda: str(shown()))
+
+
+def test_a_reviewer_is_led_from_one_request_to_the_next(browser: Browser, site: Site) -> None:
+    for number in (1, 2):
+        site.submits(unsigned(number), f"to be read, {number}")
+    own = site.submits(unsigned(3), "her own", "rita")
+    site.reviews("raul", 2)
+    browser.sign_in(token("rita"))
+    browser.sees("Waits for you 2", "1 of 2 yes, by raul", "Yours under way 1", "her own")
+    is_counted(browser, "(2) For you", "2")
+    shots(browser, "inbox-reviewer")
+    browser.press("to be read, 1", tag="a")
+    browser.press("Vote yes")
+    browser.sees("Your vote of yes is in.", "Next: request 2, to be read, 2; 1 waits for you.")
+    is_counted(browser, "(1) Request 1", "1")
+    browser.press("request 2, to be read, 2", tag="a")
+    browser.press("Vote yes")
+    browser.asks("Vote yes on request 2?")
+    browser.script("document.querySelector('dialog button.danger').click()")
+    browser.sees("Nothing else waits for you.")
+    # A vote of another person changes a row of the view that is shown; the focus stays.
+    browser.go("inbox")
+    browser.script("[...document.querySelectorAll('td a')].pop().focus()")
+    site.reviews("raul", own)
+    looks_again(browser)
+    browser.sees("Yours that changed 1", "1 of 2 yes, by raul")
+    focus = browser.script("return document.activeElement.textContent")
+    expect(focus, "her own", "where the focus is")
+
+
+def test_a_submitters_requests_that_changed_count_until_she_looks_at_them(
+    browser: Browser, site: Site
+) -> None:
+    number = site.submits(unsigned(1), "to be counted")
+    browser.sign_in(token("ann"))
+    browser.sees("Yours under way 1")
+    is_counted(browser, "For you", "")
+    browser.go("check")
+    site.reviews("rita", number, "no")
+    looks_again(browser)
+    is_counted(browser, "(1) Check an image", "1")
+    browser.press("For you 1", tag="a")
+    browser.sees("Yours that changed 1", "Rejected", "You have no request under way.")
+    looked(browser, "what changed of a submitter's")
+    browser.go(f"requests/{number}")
+    is_counted(browser, f"Request {number}", "")
+    browser.press("Sign out")
+    expect(browser.driver.title, "Kovelamiru", "the title after the sign-out")
+
+
+@pytest.mark.parametrize("name, says", [
+    ("olga", "1 digest"), ("otto", "No proposal waits for you."),
+    ("sid", "to be signed"), ("ann", "to be signed"),
+])
+def test_each_role_sees_what_waits(browser: Browser, site: Site, name: str, says: str) -> None:
+    """A click on the link of the view that is shown looks again."""
+    browser.sign_in(token(name))
+    # (the first look is over)
+    browser.go("inbox")
+    number = site.submits(unsigned(1), "to be signed")
+    for reviewer in ("rita", "raul"):
+        site.reviews(reviewer, number)
+    site.proposes("5" * 64)
+    browser.press("For you", tag="a")
+    browser.sees(says)
+    looked(browser, f"the first view of {name}")

@@ -1,0 +1,96 @@
+"""Slips of an officer: what would revoke nothing, or too much, is asked back about, with what was
+probably meant, and nothing is proposed."""
+from __future__ import annotations
+
+from typing import Iterator
+
+import pytest
+
+from checks.page.site import CERTIFICATE, Site, unsigned
+from checks.support.browser import Browser
+from checks.support.cases import SIGNER
+from checks.support.images import sha256
+from checks.support.messages import token
+from checks.support.says import expect
+
+# As openssl prints a fingerprint.
+COLONS = ":".join(["AB"] * 32)
+DIGESTS, TBS = "Digests, one a line", "Or the SHA-256 of its TBSCertificate"
+
+
+@pytest.fixture
+def facts(browser: Browser, site: Site) -> Iterator[dict[str, str]]:
+    """Those of a request whose length is no multiple of 8. olga is signed in, and proposes
+    nothing."""
+    site.does("olga", "/db/certificates", CERTIFICATE)
+    number = site.submits(unsigned(105) + b"12345", "of an odd length")
+    before = site.shows("olga", "/proposals")
+    browser.sign_in(token("olga"))
+    yield site.shows("olga", f"/requests/{number}")
+    expect(site.shows("olga", "/proposals"), before, "the proposals behind slips")
+
+
+def slips(browser: Browser, told: str, *meant: str) -> None:
+    browser.press("Propose")
+    browser.asks("Is that what you mean?", told, *meant)
+    browser.press("Change it")
+    browser.asks_no_more()
+
+
+def test_a_digest_that_is_of_something_else_is_asked_about(
+    browser: Browser, facts: dict[str, str]
+) -> None:
+    browser.go("propose")
+    for given, told, *meant in (
+        (facts["file"], "the SHA-256 of the whole file", facts["digest"], facts["signing"]),
+        (SIGNER["tbs"], "names a certificate"),
+        (facts["digest"], "has two digests", facts["signing"]),
+        (COLONS, "AB:AB:AB… has colons"),
+    ):
+        browser.fill(DIGESTS, given)
+        slips(browser, told, *meant)
+    browser.fill(DIGESTS, f"{'a' * 64}\n\n{'a' * 63}")
+    browser.press("Propose")
+    browser.sees("Line 3 isn’t 64 hexadecimal digits.")
+
+
+def test_a_certificates_digest_that_is_of_something_else_is_asked_about(
+    browser: Browser, facts: dict[str, str]
+) -> None:
+    browser.go("propose/certificate")
+    for given, told, *meant in (
+        (sha256(CERTIFICATE), "the fingerprint", SIGNER["tbs"]),
+        (COLONS, "It has colons, as a fingerprint has"), (facts["digest"], "of an image"),
+    ):
+        browser.fill(TBS, given)
+        slips(browser, told, *meant)
+
+
+def test_a_generation_or_a_stamp_that_is_far_off_is_asked_about(
+    browser: Browser, facts: dict[str, str]
+) -> None:
+    browser.go("propose/level")
+    browser.fill("Component", "grub")
+    for generation, stamp, told in (
+        ("70000", "2099010100", "16 bits"), ("90", "2099010100", "far above"),
+        ("9", "9999999999", "isn’t a date"),
+    ):
+        browser.fill("Generation", generation)
+        browser.fill("Stamp", stamp)
+        slips(browser, told)
+    browser.fill("Stamp", "2026-11-27")
+    browser.press("Propose")
+    browser.sees("A stamp has ten digits")
+
+
+def test_a_slip_that_was_proposed_without_the_page_is_told_before_a_confirm(
+    browser: Browser, site: Site
+) -> None:
+    number = site.submits(unsigned(105), "of a whole file")
+    site.proposes(site.shows("olga", f"/requests/{number}")["file"])
+    browser.sign_in(token("olga"))
+    browser.go("proposals/1")
+    browser.sees("Is that what was meant?")
+    browser.press("Confirm…")
+    browser.asks("Confirm proposal 1 for good?", "the SHA-256 of the whole file")
+    browser.press("Leave it open")

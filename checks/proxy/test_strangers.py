@@ -1,0 +1,76 @@
+"""What a stranger gets, what is too long, and what a closed site and that of maintenance say."""
+from __future__ import annotations
+
+import pytest
+
+from checks.proxy.site import AT_ONCE, LEVEL, Proxied, Site, refusal
+from checks.support.images import digest
+from checks.support.says import expect
+from checks.support.steps import named
+
+MOST_IMAGE, MOST_BODY = 134_217_728, 4_194_304
+
+
+def test_nothing_of_a_strangers_body_is_kept(site: Site) -> None:
+    longest, four = site.of_size("longest", MOST_IMAGE), site.of_size("four", 4_000_000)
+    before = site.kept()
+    found = site.ask("nobody", "/verdict", *AT_ONCE, "--data-binary", longest)
+    expect(found[:2], refusal(20), "a stranger's long body")
+    found.strictly()
+    assert "WWW-Authenticate: Desk" in found.fields
+    for _ in range(10):
+        words = (*AT_ONCE, "-H", "Desk-Key: k", "--data-binary", four)
+        found = site.ask("nobody", "/requests", *words)
+        expect(found[:2], refusal(20), "a stranger's body")
+    for method in ("PUT", "DELETE", "OPTIONS", "PATCH"):
+        found = site.ask("ann", "/requests", *AT_ONCE, "-X", method, "--data-binary", four)
+        expect(found[:2], refusal(54), method)
+        found.strictly()
+        assert "Allow: GET, POST" in found.fields
+    expect(site.kept(), before, "the time of the last file of a body")
+    words = ("-H", "Desk-Key: k", "-H", "Desk-Title: long", "--data-binary", longest)
+    expect(site.ask("ann", "/requests", *words)[:2], refusal(2), "zeros as an image")
+    assert site.kept() != before, "nobody's body was ever kept: this sees none"
+
+
+@pytest.mark.parametrize("path, most", (("/dbx/digests", MOST_BODY), ("/requests", MOST_IMAGE)))
+def test_a_body_that_is_too_long_is_refused(site: Site, path: str, most: int) -> None:
+    words = ("-H", "Desk-Key: k", "-H", "Desk-Title: long", "--data-binary")
+    assert site.ask("olga", path, *words, site.of_size("body", most)).status != 413
+    assert site.ask("olga", path, *words, site.of_size("body", most + 1)).status == 413
+
+
+def test_each_response_forbids_http_without_tls(site: Site) -> None:
+    for who, path, words in (
+        ("olga", "/", ()), ("olga", "/page/main.js", ()), ("olga", "/level", ()),
+        ("olga", "/nowhere", ()), ("nobody", "/level", ()), ("olga", "/level", ("-X", "PUT")),
+    ):
+        site.ask(who, path, *words).strictly()
+
+
+def test_a_closed_site_answers_nobody_and_keeps_nothing(site: Site) -> None:
+    closed, before = site.room / "kovelamiru-desk.closed", site.kept()
+    closed.touch()
+    for path in ("/", "/page/main.js", "/level"):
+        assert site.ask("olga", path).status == 503
+    longest = site.of_size("longest", MOST_IMAGE)
+    words = (*AT_ONCE, "-H", "Desk-Key: k", "--data-binary", longest)
+    assert site.ask("olga", "/dbx/digests", *words).status == 503
+    expect(site.kept(), before, "the time of the last file of a body")
+    closed.unlink()
+    expect(site.ask("olga", "/level")[:2], (200, LEVEL), "a site that is open again")
+
+
+def test_the_site_of_maintenance_is_the_way_in_without_a_limit_of_a_token(proxied: Proxied) -> None:
+    site = proxied(sites=("nginx-maintenance.conf",))
+    (site.room / "kovelamiru-desk.closed").touch()
+    back = site.nginx.back
+    assert site.ask("olga", "/level").status == 503
+    expect(site.ask("nobody", "/level", port=back)[:2], refusal(20), "a stranger")
+    expect(site.ask("olga", "/level", port=back)[:2], (200, LEVEL), "the level")
+    body = named(digest("aa")).decode()
+    words = ("-H", "Desk-Key: k", "--data-binary", body)
+    assert site.ask("olga", "/dbx/digests", *words, port=back).status == 200
+    for _ in range(20):
+        found = site.ask("oscar", "/db/digests", "-d", "x", port=back)
+        expect(found[:2], refusal(51), "a list of entries that are listed again")

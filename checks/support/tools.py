@@ -1,0 +1,70 @@
+"""The tools that checks need, and the libraries that are loaded before the program."""
+from __future__ import annotations
+
+import ctypes
+import os
+import shutil
+import signal
+import subprocess
+from pathlib import Path
+
+from checks.support.says import fail
+
+ROOT = Path(__file__).resolve().parents[2]
+EXAMPLES = ROOT / "examples"
+
+
+def needs(*tools: str) -> None:
+    """Each is installed."""
+    lacking = [tool for tool in tools if shutil.which(tool) is None]
+    if lacking:
+        fail(f"this check needs {', '.join(lacking)}")
+
+
+def is_there(thing: str) -> bool:
+    """Whether a tool is installed, or this is `root`, or may have a `network` of its own."""
+    if thing == "network":
+        done = subprocess.run(["unshare", "-n", "true"], capture_output=True, check=False)
+        return done.returncode == 0
+    return os.getuid() == 0 if thing == "root" else shutil.which(thing) is not None
+
+
+def ran(
+    *words: str | Path, given: bytes = b"", cwd: Path | None = None, seconds: float = 120
+) -> bytes:
+    """What a tool writes. It has to succeed."""
+    needs(str(words[0]))
+    done = subprocess.run(
+        words, input=given, capture_output=True, timeout=seconds, cwd=cwd, check=False
+    )
+    if done.returncode:
+        fail(
+            f"{' '.join(map(str, words))}: status {done.returncode}, "
+            f"{done.stderr.decode(errors='replace')}"
+        )
+    return done.stdout
+
+
+def library(room: Path, name: str) -> Path:
+    """The shared library of checks/NAME.c, which is loaded before the program by LD_PRELOAD."""
+    made = room / f"{name}.so"
+    if not made.exists():
+        ran("cc", "-shared", "-fPIC", "-O1", "-o", made, ROOT / "checks" / f"{name}.c", "-ldl")
+    return made
+
+
+def end_with_parent() -> None:
+    """The process that begins here ends with the one that asks for it (prctl's
+    PR_SET_PDEATHSIG)."""
+    ctypes.CDLL(None).prctl(1, signal.SIGKILL)
+
+
+def is_trial(program: Path) -> bool:
+    """Whether the program has the address sanitizer: it was built by `rt try` and isn't proved."""
+    return b"__asan_init" in program.read_bytes()
+
+
+def processors() -> int:
+    """How many runs of the program a test may have side by side: xdist's workers share the rest."""
+    workers = int(os.environ.get("PYTEST_XDIST_WORKER_COUNT", "1"))
+    return max(1, len(os.sched_getaffinity(0)) // workers)
