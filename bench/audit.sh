@@ -16,4 +16,4 @@ find_program ${DESK_BENCH_PROGRAM:+"$DESK_BENCH_PROGRAM"}
 TMPDIR=${DESK_BENCH_DISK:-${TMPDIR:-/tmp}}
 export TMPDIR
 enter_room
-PYTHONPATH=$root/checks/requests within 86400 python3 -B "$root/bench/audit/audit.py" "$program" "$room" "$@"
+PYTHONPATH=$root within 86400 python3 -B "$root/bench/audit/audit.py" "$program" "$room" "$@"

@@ -15,4 +15,4 @@ set -eu
 . "$(dirname -- "$(readlink -f -- "$0")")/../checks/common.sh"
 needs python3 sqlite3
 find_program ${DESK_BENCH_PROGRAM:+"$DESK_BENCH_PROGRAM"}
-PYTHONPATH=$root/checks/requests exec python3 -B "$root/bench/growth/growth.py" "$program" "$@"
+PYTHONPATH=$root exec python3 -B "$root/bench/growth/growth.py" "$program" "$@"

@@ -16,4 +16,4 @@ needs callgrind_control cc python3 valgrind
 find_program ${DESK_BENCH_PROGRAM:+"$DESK_BENCH_PROGRAM"}
 enter_room
 cc -shared -fPIC -O1 -o "$room/heap.so" "$root/bench/heap.c" -ldl
-PYTHONPATH=$root/checks/requests:$root/bench/requests within 86400 python3 -B "$root/bench/impact/impact.py" "$program" "$room/heap.so" "$@"
+PYTHONPATH=$root:$root/bench/requests within 86400 python3 -B "$root/bench/impact/impact.py" "$program" "$room/heap.so" "$@"

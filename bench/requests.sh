@@ -12,4 +12,4 @@ set -eu
 . "$(dirname -- "$(readlink -f -- "$0")")/../checks/common.sh"
 needs callgrind_control python3 valgrind
 find_program ${DESK_BENCH_PROGRAM:+"$DESK_BENCH_PROGRAM"}
-PYTHONPATH=$root/checks/requests exec python3 -B "$root/bench/requests/instructions.py" "$program" "$@"
+PYTHONPATH=$root exec python3 -B "$root/bench/requests/instructions.py" "$program" "$@"

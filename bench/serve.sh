@@ -60,7 +60,7 @@ PYTHON
 
 # ---- the client
 
-PYTHONPATH=$root/checks/requests python3 -B - "$program" "$room" "${2:-2000}" "${3:-9}" << 'PYTHON'
+PYTHONPATH=$root python3 -B - "$program" "$room" "${2:-2000}" "${3:-9}" << 'PYTHON'
 import hashlib
 import os
 import shutil
@@ -71,7 +71,7 @@ import subprocess
 import sys
 import time
 
-from desk import Held, listens
+from checks.support.ports import Held, listens
 
 PROGRAM, ROOM = sys.argv[1:3]
 COUNT, ROUNDS = map(int, sys.argv[3:])

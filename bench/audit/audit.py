@@ -7,7 +7,10 @@ import sys
 import time
 from typing import Iterator, NamedTuple
 
-from desk import CERTIFICATE, OWNER, PEOPLE, TBS, Program, expect, fail, sha256, token
+from checks.support.images import CERTIFICATE, OWNER, TBS, sha256
+from checks.support.messages import PEOPLE, token
+from checks.support.program import Program, alone
+from checks.support.says import expect, fail
 
 sys.stdout.reconfigure(line_buffering=True)
 ROOM = sys.argv[2]
@@ -188,7 +191,7 @@ def measured(program: Program, count: int, base: dict[str, Run]) -> dict[str, Ru
     return found
 
 
-with Program(sys.argv[1]) as program:
+with alone(sys.argv[1]) as program:
     print(f"load {os.getloadavg()[0]:.1f} on {os.cpu_count()} processors")
     base = measured(program, 0, {})
     for size in SIZES:

@@ -6,8 +6,12 @@ import subprocess
 import sys
 import time
 
-from days import named, proposes, submits
-from desk import PLAIN, Program, Server, expect, fail, got, sha256, with_text
+from checks.support.images import PLAIN, sha256, with_text
+from checks.support.messages import got
+from checks.support.program import alone
+from checks.support.says import expect, fail
+from checks.support.server import Server
+from checks.support.steps import named, proposes, submits
 
 sys.stdout.reconfigure(line_buffering=True)
 REQUESTS = int(sys.argv[2]) if len(sys.argv) > 2 else 10_000
@@ -112,7 +116,7 @@ def minutes(program, desk):
 
 
 PLAIN_REQUEST, LARGE_REQUEST, PROPOSAL = documented()
-with Program(sys.argv[1]) as program:
+with alone(sys.argv[1]) as program:
     empty = program.founded("empty.db")
     program.gives("level", empty)
     small = filled(program, "small.db", (submits("ann", f"k{it}", PLAIN, "a loader", it) for it in range(1, REQUESTS + 1)))

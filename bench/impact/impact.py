@@ -4,8 +4,12 @@ import sys
 from typing import NamedTuple
 
 from counting import Counting, asks
-from days import named, submits
-from desk import PLAIN, TABLE, Program, Server, authenticode, changed, fail, got, with_table, with_text
+from checks.support.images import PLAIN, TABLE, authenticode, changed, with_table, with_text
+from checks.support.messages import got
+from checks.support.program import alone
+from checks.support.says import fail
+from checks.support.server import Server
+from checks.support.steps import named, submits
 from histories import History, digest_of, fill
 
 sys.stdout.reconfigure(line_buffering=True)
@@ -117,7 +121,7 @@ HISTORIES = {
     "one submission in a hundred calls": Mixed, "submissions of plain images": Submissions,
     "submissions of images with two components and a certificate": Loaders,
 }
-with Program(sys.argv[1]) as program:
+with alone(sys.argv[1]) as program:
     for what, kind in HISTORIES.items():
         history, found = kind(), []
         desk = program.founded(f"{kind.__name__}.db")

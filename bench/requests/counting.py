@@ -4,7 +4,8 @@ import os
 import re
 import subprocess
 
-from desk import Server, expect, fail
+from checks.support.says import expect, fail
+from checks.support.server import Server
 
 
 def asks(server, step):

@@ -1,6 +1,9 @@
 """Histories of desks, which are filled over HTTP: what the benches share."""
-from days import confirms, drops, lists, named, proposes, reviews, submits
-from desk import PEOPLE, PLAIN, Server, expect, sha256
+from checks.support.images import PLAIN, sha256
+from checks.support.messages import PEOPLE
+from checks.support.says import expect
+from checks.support.server import Server
+from checks.support.steps import confirms, drops, lists, named, proposes, reviews, submits
 
 
 def digest_of(kind, number):

@@ -3,8 +3,11 @@ import os
 import sys
 
 from counting import Counting, asks
-from days import confirms, drops, judges, lists, named, raising, returns, reviews, submits, takes
-from desk import CERTIFICATE, PLAIN, SIGNED, Program, fail, got, posted, request, token
+from checks.support.images import CERTIFICATE, PLAIN, SIGNED
+from checks.support.messages import got, posted, request, token
+from checks.support.program import alone
+from checks.support.says import fail
+from checks.support.steps import confirms, drops, judges, lists, named, raising, returns, reviews, submits, takes
 from histories import History, digest_of, fill
 
 sys.stdout.reconfigure(line_buffering=True)
@@ -80,7 +83,7 @@ def measured(program, desk, history):
     return found
 
 
-with Program(sys.argv[1]) as program:
+with alone(sys.argv[1]) as program:
     desk, history, found = program.founded("desk.db"), History(), {}
     for size in SIZES:
         fill(program, desk, history, size)
