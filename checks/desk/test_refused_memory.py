@@ -17,7 +17,7 @@ import itertools
 import os
 import struct
 from pathlib import Path
-from typing import Callable, NamedTuple
+from typing import Callable, Iterator, NamedTuple
 
 import pytest
 
@@ -41,7 +41,10 @@ LONG_ROW = 100
 # Of these subcommands each is refused.
 EACH = ("pack", "facts", "list")
 # Of an audit, and of a run of follow, the first and the last so many, and one in 20 between.
+LONG = ("audit", "follow")
 MANY = 1_000
+# These take minutes: each is so many tests, which run side by side.
+SHARES = 6
 LINE = b"device 40 NoMemory\n"
 
 
@@ -127,8 +130,7 @@ class Refusing:
         if STRIDE == 0 or self.case.words[0] in EACH:
             return list(every), count
         if STRIDE > 1:
-            is_long = self.case.words[0] in ("audit", "follow")
-            edge, stride = (MANY, 20) if is_long else (100, STRIDE)
+            edge, stride = (MANY, 20) if self.case.words[0] in LONG else (100, STRIDE)
             return [
                 one for one in every if one <= edge or one > count - edge or one % stride == 0
             ], count
@@ -141,11 +143,12 @@ class Refusing:
             place += length
         return found, count
 
-    def each(self) -> None:
+    def each(self, share: int, shares: int) -> None:
+        """Every so many-th of the numbers, from this one on."""
         self.put()
         numbers, count = self.numbers()
         assert numbers, "no allocation is seen: the program has another allocator"
-        for number in numbers:
+        for number in numbers[share::shares]:
             self.put()
             ran = self.run(number)
             if not self.is_whole(ran) and not self.is_told(ran):
@@ -274,9 +277,16 @@ CASES: dict[str, Callable[[Program], Case]] = {
 }
 
 
-@pytest.mark.parametrize("name", CASES)
+def shared() -> Iterator[tuple[str, int, int]]:
+    """Each case with its share, and of how many."""
+    for name in CASES:
+        shares = SHARES if name.split()[0] in LONG else 1
+        yield from ((name, share, shares) for share in range(shares))
+
+
+@pytest.mark.parametrize("name, share, shares", shared())
 def test_each_refused_allocation_is_told_or_done_without(
-    desks: Program, session_room: Path, room: Path, name: str
+    desks: Program, session_room: Path, room: Path, name: str, share: int, shares: int
 ) -> None:
     loaded = library(session_room, "refuse")
-    Refusing(desks, loaded, name, CASES[name](desks), room).each()
+    Refusing(desks, loaded, name, CASES[name](desks), room).each(share, shares)
