@@ -116,7 +116,8 @@ def test_deskctl_asks_before_the_forgery_is_returned(office: Office, makers: Mak
     assert "no signature says" not in types(office, "sid", "verdict good.efi")
     types(office, "sid", "return 1 good.efi")
     returned = sha256((makers.room / "good.efi").read_bytes())
-    assert f"returned    {returned}" in types(office, "sid", "request 1")
+    said = types(office, "sid", "request 1")
+    assert f"returned    {returned}\nverdict     The desk allowed the returned file" in said, said
 
 
 def test_a_barred_request_says_so_and_a_yes_on_it_asks(office: Office, makers: Makers) -> None:

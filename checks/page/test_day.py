@@ -181,9 +181,10 @@ class Day:
         self.browser.go("requests/1")
         self.browser.sees(
             f"Barred today: {low}",
-            "The returned one may be barred by a certificate that it carries",
+            "The desk allowed the returned file as it took it.",
             "below the level: barred", "neither listed nor revoked",
         )
+        assert "unsigned" not in self.browser.one("main").text
 
     def downloads(self, button: str, name: str, wanted: bytes) -> None:
         """The file that a button gives is what the desk answers."""

@@ -12,7 +12,7 @@ import { me } from '../desk/session.js';
 import { barredBy, standing } from '../desk/standing.js';
 import { seen } from '../desk/waiting.js';
 import { wire } from '../formats/wire.js';
-import { counted, ruleWords, size } from '../formats/words.js';
+import { counted, filled, ruleWords, size } from '../formats/words.js';
 
 /** @typedef {import('./dom.js').Child} Child */
 /** @typedef {import('../desk/types.js').Request} Request */
@@ -46,7 +46,10 @@ function whole(place, request) {
         p(badge(state), ` ${wire.words.requests[state]?.means ?? ''}`),
         quiet(
             `Submitted by ${submitter}. ${size(request.length)}. `,
-            `The desk keeps facts of the image, not its bytes: get the file from ${submitter}.`,
+            'The desk keeps facts of the image, not its bytes: ',
+            submitter === me.name
+                ? 'pass the file on yourself.'
+                : `get the file from ${submitter}.`,
         ),
         today,
         comparePart(request, looked),
@@ -92,8 +95,6 @@ function withdrawPart(request, again) {
     return may ? withdrawForm(request, again) : '';
 }
 
-const SUBMITTED = 'This is about the submitted file. The returned one may be barred by a '
-    + 'certificate that it carries: look under “Check an image”.';
 const NO_COMPONENT = 'It has no SBAT component: no level can bar it, and as shim’s own second '
     + 'stage shim refuses it.';
 const NOT_LOW = 'Each of its components is at the level or above it, or isn’t in the level.';
@@ -103,9 +104,8 @@ const NOT_LOW = 'Each of its components is at the level or above it, or isn’t 
 function findings(request, now) {
     const barred = barredBy(now, request);
     const found = [];
-    if (request.returned) found.push(['note', SUBMITTED]);
     if (barred) found.push(['bad', `Barred today: ${ruleWords(barred)}.`]);
-    found.push(listed(request, now));
+    found.push(request.returned ? ['note', returnedWords()] : listed(request, now));
     if (request.components.length === 0) found.push(['care', NO_COMPONENT]);
     else if (!barred) found.push(['good', NOT_LOW]);
     if (request.gap > 0) {
@@ -122,6 +122,9 @@ function findings(request, now) {
         ),
     );
 }
+
+// What the desk said of the file that was returned.
+const returnedWords = () => filled(wire.words.returned, { check: '“Check an image”' });
 
 /** @param {Request} request @param {Standing} now */
 function listed({ carried, digest, state }, now) {

@@ -9,7 +9,7 @@ import time
 from typing import Optional
 
 from ..answers import Request, me_of, request_of, said_number, shaped
-from ..described import LIMITS
+from ..described import LIMITS, WORDS
 from ..desk import LONGEST_PAUSE
 from ..facts import gap_words
 from ..faults import LOST, REFUSED, Lost, Stop, wrong
@@ -122,7 +122,9 @@ def request(run: Run) -> None:
     rows += [("component", f"{name} {generation}") for name, generation in one.components]
     rows += [("vote", f"{vote['reviewer']} {vote['vote']}  {vote['note']}".rstrip())
              for vote in one.votes]
-    rows += [("returned", one.returned)] if one.returned else []
+    if one.returned:
+        rows += [("returned", one.returned),
+                 ("verdict", WORDS["returned"].format(check="`deskctl verdict FILE`"))]
     barred = barred_by(standing_of(run.desk), one)
     rows += [("today", f"barred: {rule_words(barred)}")] if barred else []
     run.terminal.rows(rows)
