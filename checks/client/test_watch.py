@@ -9,6 +9,8 @@ import subprocess
 import threading
 from pathlib import Path
 
+import pytest
+
 from checks.support.between import Between, answer
 from checks.support.deskctl import Office, Person
 from checks.support.images import digest
@@ -24,8 +26,13 @@ def told(person: Person, words: str = "") -> list[str]:
     return person.does(f"watch --once {words}").splitlines()
 
 
-def test_each_role_is_told_once_what_waits_for_it(office: Office) -> None:
-    people = office.people
+@pytest.mark.parametrize("older", [False, True])
+def test_each_role_is_told_once_what_waits_for_it(
+    office: Office, between: Between, older: bool
+) -> None:
+    people = office.people_at(between.url)
+    if older:
+        between.shows["/waiting"] = between.shows["/changes"] = refused(53)
 
     def tells(name: str, *lines: str) -> None:
         expect(told(people[name]), [*lines], f"what {name} is told")
@@ -45,10 +52,61 @@ def test_each_role_is_told_once_what_waits_for_it(office: Office) -> None:
     tells("rita")
     people["olga"].does(f"revoke --digest {digest('41')} --digest {digest('42')}")
     tells("olga")
-    event = {"by": "olga", "desk": office.url, "kind": "confirm", "number": 1,
+    event = {"by": "olga", "desk": between.url, "kind": "confirm", "number": 1,
              "words": "proposal 1 of olga waits for your Confirm: 2 digests"}
     expect([json.loads(line) for line in told(people["otto"], "--json")], [event], "as JSON")
     tells("otto")
+
+
+def paths(between: Between, person: Person, *lines: str) -> list[str]:
+    """What is asked of the desk by a look that tells these lines."""
+    before = len(between.seen)
+    expect(told(person), [*lines], f"what {person.name} is told")
+    return [head.split(b" ")[1].decode() for head in between.seen[before:]]
+
+
+def test_a_look_asks_for_what_is_new_alone(office: Office, between: Between) -> None:
+    """Where the desk says that nothing changed for that; of a submitter's image that waits also
+    whether it is barred since."""
+    ann, rita, sid = (office[name].at(between.url) for name in ("ann", "rita", "sid"))
+    changes, small = ["/me", "/changes"], ["/me", "/changes", "/waiting"]
+    for _ in range(2):
+        ann.does("submit plain.efi --title 'seen'")
+    expect(paths(between, ann)[2:], ["/waiting", "/requests/from/3", "/level", "/dbx"], "the first")
+    for name in ("rita", "raul"):
+        office[name].does("review 1 yes --yes")
+    paths(between, sid, "request 1 of ann waits for its signed file: seen")
+    expect(paths(between, sid), changes, "nothing changed")
+    office["rita"].does("submit odd.efi --title 'more'")
+    expect(paths(between, sid), small, "something else changed")
+    paths(between, rita, "request 2 of ann waits for your review: seen")
+    expect(paths(between, rita), changes, "nothing changed for a reviewer")
+    yes = "your request 1 is approved (raul yes, rita yes): seen"
+    barring = ["/requests/from/3", "/level", "/dbx"]
+    expect(paths(between, ann, yes), [*small, *barring], "a request that changed")
+    expect(paths(between, ann), [*small, *barring], "nothing changed for a submitter")
+    ann.does("withdraw 1 --yes")
+    ann.does("withdraw 2 --yes")
+    lines = ("your request 1 is withdrawn (raul yes, rita yes): seen",
+             "your request 2 is withdrawn: seen")
+    ended = ["/requests/from/3", "/requests/1", "/requests/2"]
+    expect(paths(between, ann, *lines), [*small, *ended], "requests that ended")
+    expect(paths(between, ann), changes, "nothing is under way")
+
+
+def test_what_ended_between_two_looks_is_told(office: Office) -> None:
+    """Once, also where a command fails at another event of the look."""
+    ann, room = office["ann"], office.desk.room
+    expect(told(ann), [], "before anything is there")
+    for number in (1, 2):
+        ann.does("submit plain.efi --title 'not seen' --yes")
+        office["rita"].does(f"review {number} no --yes")
+    once = handler(room, "once", f'test ! -e "{room}/taken" && touch "{room}/taken"')
+    ann.ends(3, f"watch --once --exec {once}", "ended with status 1")
+    lines = [f"your request {number} is rejected (rita no): not seen" for number in (1, 2)]
+    expect(kept(once).splitlines(), lines, "to a command")
+    expect(told(ann), lines[1:], "after it failed at the second")
+    expect(told(ann), [], "after all was told")
 
 
 def handler(room: Path, name: str, ends: str) -> Path:
@@ -101,13 +159,13 @@ def test_it_goes_on_through_a_desk_that_doesnt_answer(office: Office, between: B
     end.start()
     assert watching.stdout and watching.stderr
     try:
-        # (it has locked its memory before it asks for the requests)
-        until(120, "it asks for the requests",
-              lambda: any(head.startswith(b"GET /requests ") for head in between.seen[before:]))
+        # (it has locked its memory before it asks for changes)
+        until(120, "it asks for changes",
+              lambda: any(head.startswith(b"GET /changes ") for head in between.seen[before:]))
         raul.ends(2, "watch --once", "another watch of yours is under way")
-        between.shows["/requests"] = answer(502, b"")
+        between.shows["/changes"] = answer(502, b"")
         said = watching.stderr.readline()
-        del between.shows["/requests"]
+        del between.shows["/changes"]
         office["ann"].does("submit odd.efi --title 'seen while it goes on'")
         line = watching.stdout.readline().decode()
     finally:

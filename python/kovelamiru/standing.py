@@ -54,16 +54,22 @@ def level_of(desk: Desk) -> tuple[int, dict[str, int]]:
     return level_read(desk.get("/level").of_type(TEXT).data().decode("utf-8", "replace"))
 
 
-def standing_of(desk: Desk) -> Standing:
+def revoked_of(desk: Desk) -> Standing:
+    """What bars images today, without what is listed."""
     found = Standing(level=level_of(desk)[1])
+    for kind, entry in lists_of(desk, "dbx"):
+        named = found.revoked_digests if kind == "sha256" else found.revoked_certificates
+        named.add(entry[16:48].hex())
+    return found
+
+
+def standing_of(desk: Desk) -> Standing:
+    found = revoked_of(desk)
     for kind, entry in lists_of(desk, "db"):
         if kind == "x509":
             found.take_listed(entry[16:])
         elif kind == "sha256":
             found.digests.add(entry[16:].hex())
-    for kind, entry in lists_of(desk, "dbx"):
-        named = found.revoked_digests if kind == "sha256" else found.revoked_certificates
-        named.add(entry[16:48].hex())
     return found
 
 

@@ -16,6 +16,8 @@ from .words import counted
 
 # So many yes approve a request.
 NEEDED = 2
+# The states in which a request goes on.
+UNDER_WAY = ("open", "approved")
 # A part of the minutes has so many lines at most.
 PART = 1000
 
@@ -33,7 +35,7 @@ def waits(me: Me, one: Request) -> bool:
     if me.role == "signer":
         return one.state == "approved"
     if one.submitter == me.name:
-        return one.state in ("open", "approved")
+        return one.state in UNDER_WAY
     voted = any(vote["reviewer"] == me.name for vote in one.votes)
     return me.role == "reviewer" and one.state == "open" and not voted
 

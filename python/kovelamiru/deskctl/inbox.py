@@ -4,7 +4,7 @@ from __future__ import annotations
 from typing import Sequence
 
 from ..answers import Counts, Request, caller_of, shaped
-from ..standing import barred_by, standing_of
+from ..standing import barred_by, revoked_of
 from ..waiting import ages_of, waiting_of, yes_words
 from ..words import kinds
 from .run import Run
@@ -14,7 +14,7 @@ Rows = Sequence[tuple[object, ...]]
 
 def request_rows(run: Run, requests: Sequence[Request]) -> Rows:
     """Each request with its votes, and whether its image is barred today."""
-    now = standing_of(run.desk) if requests else None
+    now = revoked_of(run.desk) if requests else None
     return [(one.number, one.title, one.submitter,
              yes_words(one) if one.state == "open" else one.state,
              "barred" if now and barred_by(now, one) else "-") for one in requests]

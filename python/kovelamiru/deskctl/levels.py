@@ -3,6 +3,7 @@ from __future__ import annotations
 
 from typing import Any, Iterable, Iterator, Mapping, Sequence
 
+from ..answers import Counts, shaped
 from ..standing import level_of
 from .run import Run
 
@@ -47,11 +48,19 @@ def level_text(stamp: int, level: Level) -> str:
     return f"sbat,1,{stamp}\n" + "".join(rows)
 
 
+def raises(run: Run) -> Iterator[Mapping[str, Any]]:
+    """The confirmed proposals that raised names, with all that they name."""
+    for value in run.desk.listed("/proposals"):
+        one = shaped(Counts, value)
+        if one.state == "confirmed" and one.components:
+            yield run.desk.get(f"/proposals/{one.number}").object()
+
+
 def level(run: Run) -> None:
     stamp, now = level_of(run.desk)
     if run.words.for_shim:
-        stamps = reached(now, run.desk.items("/proposals"))
-        images = (one["components"] for one in run.desk.items("/requests"))
+        stamps = reached(now, raises(run))
+        images = (one["components"] for one in run.desk.listed("/requests"))
         without = covered(now, stamps, images)
         for name, parent in without.items():
             run.terminal.note(

@@ -9,13 +9,14 @@ import shutil
 import subprocess
 import time
 from dataclasses import asdict, dataclass
-from typing import Any, Iterator, Sequence
+from typing import Any, Iterator, Optional, Sequence
 
-from ..answers import Counts, Me, Request, me_of, shaped
-from ..faults import LOST, REFUSED, Lost, Stop, broken, reason, wrong
+from ..answers import Counts, Me, Request, me_of, request_of, shaped
+from ..faults import LOST, REFUSED, Lost, Refused, Stop, broken, reason, wrong
 from ..files import folder_of, fresh
 from ..questions import rule_words
-from ..standing import Standing, barred_by, standing_of
+from ..standing import Standing, barred_by, revoked_of
+from ..waiting import UNDER_WAY, changes_of, waiting_of
 from ..words import desk_json, kinds, printable
 from .run import Run
 
@@ -45,21 +46,12 @@ def votes_of(one: Request) -> str:
     return ", ".join(f"{vote['reviewer']} {vote['vote']}" for vote in one.votes)
 
 
-def waiting(me: Me, one: Request) -> Iterator[Event]:
-    """What of a request waits for the caller."""
-    mine = one.submitter == me.name or any(vote["reviewer"] == me.name for vote in one.votes)
-    if me.role == "reviewer" and one.state == "open" and not mine:
-        yield request_event("review", one, f"of {one.submitter} waits for your review")
-    if me.role == "signer" and one.state == "approved":
+def asked(me: Me, one: Request) -> Iterator[Event]:
+    """What the caller is asked for by a request that waits, where it isn't their own."""
+    if me.role == "signer":
         yield request_event("sign", one, f"of {one.submitter} waits for its signed file")
-
-
-def concerns(me: Me, one: Request) -> bool:
-    """Whether the caller is told when the image becomes barred: a submitter, and reviewers while
-    it is open."""
-    if one.submitter == me.name:
-        return one.state in ("open", "approved")
-    return me.role == "reviewer" and one.state == "open"
+    elif one.submitter != me.name:
+        yield request_event("review", one, f"of {one.submitter} waits for your review")
 
 
 def barred(me: Me, concerned: Sequence[Request], now: Standing) -> Iterator[Event]:
@@ -71,16 +63,15 @@ def barred(me: Me, concerned: Sequence[Request], now: Standing) -> Iterator[Even
             yield request_event("barred", one, f"({of}) is barred, {rule_words(rule)}")
 
 
-def proposed(me: Me, one: Counts) -> Iterator[Event]:
-    """What of a proposal waits for the caller."""
-    if one.state == "open" and one.officer != me.name:
-        names = kinds({name: count for name, count in one.named().items() if count})
-        words = f"proposal {one.number} of {one.officer} waits for your Confirm: {names}"
-        yield Event("confirm", one.number, one.officer, words)
+def proposed(one: Counts) -> Event:
+    names = kinds({name: count for name, count in one.named().items() if count})
+    words = f"proposal {one.number} of {one.officer} waits for your Confirm: {names}"
+    return Event("confirm", one.number, one.officer, words)
 
 
 class Memory:
-    """What was told, and how one's own requests were: a file for each caller at each desk."""
+    """What was told, how one's own requests were, the number behind the last request that was seen,
+    and the desk's number of changes: a file for each caller at each desk."""
     def __init__(self, run: Run):
         folder = os.path.join(folder_of("XDG_STATE_HOME", ".local/state"), "deskctl-watch")
         self.path = os.path.join(folder, f"{run.desk.caller}.json")
@@ -94,25 +85,30 @@ class Memory:
             wrong(f"nothing can be remembered in {folder}: {reason(error)}")
         self.told: set[str] = set()
         self.own: dict[str, str] = {}
+        self.next, self.changes = 0, -1
         self.new = not self.read()
 
     def read(self) -> bool:
         try:
             with open(self.path, encoding="utf-8") as file:
                 found = json.load(file)
-            self.told = {str(name) for name in found["told"]}
-            self.own = {str(number): str(state) for number, state in found["own"].items()}
+            told = {str(name) for name in found["told"]}
+            own = {str(number): str(state) for number, state in found["own"].items()}
+            self.next, self.changes = int(found["next"]), int(found["changes"])
+            self.told, self.own = told, own
             return True
         except (OSError, ValueError, KeyError, TypeError, AttributeError):
             return False
 
     def write(self) -> None:
-        fresh(self.path, json.dumps({"own": self.own, "told": sorted(self.told)}).encode())
+        found = {"changes": self.changes, "next": self.next, "own": self.own,
+                 "told": sorted(self.told)}
+        fresh(self.path, json.dumps(found).encode())
         self.new = False
 
     def changed(self, me: Me, one: Request) -> Iterator[Event]:
         """A change of one's own request. What stood at the first look is none."""
-        number, now = str(one.number), f"{one.state}; {votes_of(one)}"
+        number, now = str(one.number), how_of(one)
         before = self.own.get(number, now if self.new else "open; ")
         if self.new or before == now:
             self.own[number] = now
@@ -121,32 +117,64 @@ class Memory:
             words = f"your request {one.number} is {one.state}{votes}: {one.title}"
             yield Event("changed", one.number, me.name, words)
 
-    def keep(self, event: Event, states: dict[str, str]) -> None:
+    def keep(self, event: Event, own: Sequence[Request]) -> None:
         if event.kind == "changed":
-            self.own[str(event.number)] = states[str(event.number)]
+            self.own |= {str(one.number): how_of(one) for one in own if one.number == event.number}
         else:
             self.told.add(event.name())
 
+    def close(self, last: int, changes: Optional[int]) -> None:
+        """All was told of a look that got so far: what ended is forgotten."""
+        self.own = {number: how for number, how in self.own.items() if is_under_way(how)}
+        self.next, self.changes = last + 1, -1 if changes is None else changes
+        self.write()
 
-def look(run: Run, me: Me, memory: Memory, states: dict[str, str]) -> list[Event]:
-    """What is new to the caller. `states` gets how one's own requests are now."""
-    waits: list[Event] = []
-    if me.role == "officer":
-        for value in run.desk.items("/proposals"):
-            waits += proposed(me, shaped(Counts, value))
-    else:
-        concerned: list[Request] = []
-        for value in run.desk.items("/requests"):
-            one = shaped(Request, value)
-            waits += waiting(me, one)
-            concerned += [one] if concerns(me, one) else []
-            if one.submitter == me.name:
-                states[str(one.number)] = f"{one.state}; {votes_of(one)}"
-                waits += memory.changed(me, one)
-        if concerned:
-            waits += barred(me, concerned, standing_of(run.desk))
-    memory.told &= {event.name() for event in waits}
-    return [event for event in waits if event.kind == "changed" or event.name() not in memory.told]
+
+def how_of(one: Request) -> str:
+    return f"{one.state}; {votes_of(one)}"
+
+
+def is_under_way(how: str) -> bool:
+    return how.split(";")[0] in UNDER_WAY
+
+
+def own_of(run: Run, me: Me, memory: Memory, waits: Sequence[Request]) -> tuple[list[Request], int]:
+    """The caller's own requests that are under way, were so at the last look or are new since; and
+    the number of the last request that is seen."""
+    found = {one.number: one for one in waits if one.submitter == me.name}
+    # (at the first look what ended is of no interest)
+    last = max((one.number for one in waits), default=0) if memory.new else memory.next - 1
+    for value in run.desk.listed("/requests", last + 1):
+        one = shaped(Request, value)
+        last = one.number
+        found |= {one.number: one} if one.submitter == me.name else {}
+    for number, how in memory.own.items():
+        if int(number) not in found and is_under_way(how):
+            try:
+                found[int(number)] = request_of(run.desk, int(number))
+            except Refused as refused:
+                # (an older state of the desk, from a copy)
+                if refused.name != "NoSuchRequest":
+                    raise
+    return [found[number] for number in sorted(found)], last
+
+
+def look(run: Run, me: Me, memory: Memory) -> tuple[list[Event], list[Request], int]:
+    """What is new to the caller; one's own requests; the number of the last one that is seen."""
+    found = waiting_of(run.desk, me)
+    waits = [shaped(Request, value) for value in found.requests]
+    events = [proposed(shaped(Counts, value)) for value in found.proposals]
+    events += [event for one in waits for event in asked(me, one)]
+    own: list[Request] = []
+    last = 0
+    if me.role in ("submitter", "reviewer"):
+        own, last = own_of(run, me, memory, waits)
+        events += [event for one in own for event in memory.changed(me, one)]
+        if waits:
+            events += barred(me, waits, revoked_of(run.desk))
+    memory.told &= {event.name() for event in events}
+    new = [one for one in events if one.kind == "changed" or one.name() not in memory.told]
+    return new, own, last
 
 
 def private(path: str, flags: int) -> int:
@@ -197,13 +225,18 @@ def handed(command: list[str], line: str) -> None:
 
 
 def turn(run: Run, me: Me, memory: Memory) -> None:
-    states: dict[str, str] = {}
-    for event in look(run, me, memory, states):
+    """Looks, unless the desk says that nothing changed. To a submitter it doesn't say that of the
+    lists which bar images."""
+    changes = changes_of(run.desk)
+    if changes == memory.changes and not (me.role == "submitter" and memory.own):
+        return
+    events, own, last = look(run, me, memory)
+    for event in events:
         tell(run, event)
-        memory.keep(event, states)
+        memory.keep(event, own)
         if run.words.handler:
             memory.write()
-    memory.write()
+    memory.close(last, changes)
 
 
 def watch(run: Run) -> None:
