@@ -4,10 +4,11 @@ from __future__ import annotations
 import contextlib
 import threading
 from http.server import BaseHTTPRequestHandler, ThreadingHTTPServer
+from pathlib import Path
 from typing import Callable, Iterator
 
-# What a server answers at a path: the bytes, in pieces, or nothing.
-Pieces = Callable[[str], "Iterator[bytes] | None"]
+# What a server answers at a path: the bytes, in pieces, or nothing, or where to look instead.
+Pieces = Callable[[str], "Iterator[bytes] | str | None"]
 
 
 def handler(pieces: Pieces, whole: bool, log: list[str]) -> type[BaseHTTPRequestHandler]:
@@ -17,6 +18,12 @@ def handler(pieces: Pieces, whole: bool, log: list[str]) -> type[BaseHTTPRequest
             found = pieces(self.path)
             if found is None:
                 self.send_error(404)
+                return
+            if isinstance(found, str):
+                self.send_response(302)
+                self.send_header("Location", found)
+                self.send_header("Content-Length", "0")
+                self.end_headers()
                 return
             self.send_response(200)
             if whole:
@@ -48,10 +55,10 @@ def served(pieces: Pieces, whole: bool = True) -> Iterator[tuple[str, list[str]]
         server.server_close()
 
 
-def files(**named: bytes) -> Pieces:
-    """Files, by their names but for the ending .txt."""
+def files(folder: Path) -> Pieces:
+    """The files of a folder."""
     def found(path: str) -> Iterator[bytes] | None:
-        name = path[1:].removesuffix(".txt")
-        return iter([named[name]]) if name in named else None
+        at = folder / path[1:]
+        return iter([at.read_bytes()]) if at.is_file() else None
 
     return found

@@ -182,8 +182,9 @@ class Place:
         """What broken runs left beside the folders."""
         return [one for one in os.listdir(self.out) if one.endswith((".new", ".link", ".sign"))]
 
-    def shows(self, calls: int, minutes: int = 0o600) -> None:
-        """What is published is whole for anybody, and is the desk's after so many calls."""
+    def shows(self, calls: int, minutes: int = 0o600, db: bytes | None = None) -> None:
+        """What is published is whole for anybody, and is the desk's after so many calls. The desk's
+        db may be another one, if its change waits for consent."""
         expect(self.anybody("sha256sum", "--quiet", "--strict", "-c", "SHA256SUMS"), (0, b""), "")
         files = {one.name: one for one in self.link.iterdir()}
         signed = {"SHA256SUMS.sig", "checkpoint.txt.sig"} & set(files)
@@ -203,6 +204,8 @@ class Place:
         assert abs(date - time.time()) < 86400, f"the date {spelled(date)}"
         exports = {name: files[file].read_bytes() for name, file in FILES.items()}
         expect(exports["minutes"].count(b"\n"), calls, "lines of the minutes")
+        if db is not None:
+            exports["db"] = db
         expect(files["audit.txt"].read_bytes(), told(exports), "audit.txt")
 
     def signed(self, sums: bytes, status: int = 0) -> None:

@@ -193,6 +193,8 @@ def reads_checks(now: Folder, page: Page) -> None:
     signed = (now.path / "SHA256SUMS.sig").exists()
     found = ("ssh-keygen" in commands, "minutes.txt" in page.links)
     expect(found, (signed, public), "what is said of others")
+    promises = "finds a damaged file, but no mirror that lies" not in " ".join(page.of("p"))
+    expect(promises, signed, "whether it promises to find a mirror that lies")
 
 
 def reads(folder: Path, folder_before: Path | None, private: list[str]) -> None:

@@ -1,10 +1,11 @@
-"""What went back isn't published: by what was published last, or by a mirror's audit where that is
-restored too."""
+"""What went back isn't published: by what was published last, or by a mirror's signed checkpoint
+where that is restored too."""
 from __future__ import annotations
 
 import os
 import re
 import shutil
+from pathlib import Path
 
 import pytest
 
@@ -14,8 +15,10 @@ from checks.support.images import OWNER, digest_list, sha256
 from checks.support.program import copy_of
 from checks.support.says import expect
 from checks.support.steps import named
+from checks.support.tools import ran
 
-OLD = "copy/out/published/audit.txt"
+# Checkpoints: of call 5, and of call 11 as a mirror has it.
+OLD, MIRROR = "copy/out/published/checkpoint.txt", "mirror/checkpoint.txt"
 
 
 @pytest.fixture(scope="session")
@@ -24,16 +27,17 @@ def past_stage(stage: Stage, signed_stage: Place) -> Place:
     made = stage("past")
     lines = signed_stage.desk.gives("minutes", signed_stage.db).splitlines(keepends=True)
     made.desk.gives("follow", made.db, OWNER, made.desk.file("minutes", b"".join(lines[:5])))
-    made.publish(0, "calls 5: published", "--first")
+    shutil.copy(signed_stage.room / "publisher", made.room)
+    made.publish(0, "calls 5: published", "--first", "--key", "publisher")
     return made
 
 
 @pytest.fixture
 def past(signed: Place, past_stage: Place) -> Place:
     """A desk that was published at call 11; in `copy` it and what was published at call 5; in
-    `audit` what a mirror has."""
+    `mirror` what a mirror has."""
     shutil.copytree(past_stage.room, signed.room / "copy", symlinks=True)
-    signed.desk.file("audit", (signed.link / "audit.txt").read_bytes())
+    shutil.copytree(signed.link, signed.room / "mirror")
     return signed
 
 
@@ -73,44 +77,82 @@ def test_another_desk_is_refused(signed: Place) -> None:
 # ---- a witness
 
 
-def test_a_mirrors_audit_tells_of_what_was_restored_together(past: Place) -> None:
+def witness(*where: str | Path) -> list[str]:
+    return ["--key", "publisher", *(word for one in where for word in ("--witness", str(one)))]
+
+
+def test_a_mirrors_checkpoint_tells_of_what_was_restored_together(past: Place) -> None:
     """In a file or at its URL; also where what was published is lost."""
     place = restored(past)
     says = "refused witness: they have 5 calls, and those of {} 11: an older copy of the desk"
-    with served(files(audit=(past.room / "audit").read_bytes())) as (url, asked):
-        for where in ("audit", f"{url}/audit.txt"):
-            place.publish(1, says.format(where), "--witness", where)
+    with served(files(past.room / "mirror")) as (url, asked):
+        for where in (MIRROR, f"{url}/checkpoint.txt"):
+            place.publish(1, says.format(where), *witness(where))
             place.shows(5)
-        assert asked == ["/audit.txt"]
+        expect(asked, ["/checkpoint.txt", "/checkpoint.txt.sig"], "what a mirror is asked for")
     shutil.rmtree(place.out)
     place.out.mkdir()
-    place.publish(1, says.format("audit"), "--first", "--witness", "audit")
+    place.publish(1, says.format(MIRROR), "--first", *witness(MIRROR))
     assert not os.path.lexists(place.link)
 
 
 def test_it_tells_of_an_older_copy_with_more_calls_since(past: Place) -> None:
     place = restored(past)
     works(place, 6)
-    says = "refused witness: their first 11 calls aren't those of audit: an older copy of the desk,"
-    place.publish(1, f"{says} or another desk", "--witness", "audit")
-    place.publish(1, says, "--witness", OLD, "--witness", "audit")
+    says = f"refused witness: their first 11 calls aren't those of {MIRROR}: an older copy of the"
+    place.publish(1, f"{says} desk, or another desk", *witness(MIRROR))
+    place.publish(1, says, *witness(OLD, MIRROR))
     place.shows(5)
-    place.publish(0, "calls 11: published", "--witness", OLD)
+    place.publish(0, "calls 11: published", *witness(OLD))
 
 
 def test_a_desk_that_a_mirror_knows_is_published(past: Place) -> None:
-    with served(files(audit=(past.room / "audit").read_bytes())) as (url, asked):
-        words = ("--witness", f"{url}/audit.txt", "--witness", OLD)
-        past.publish(0, "calls 11: nothing new", *words)
-        assert asked == ["/audit.txt"]
+    said = past.publish(0, "calls 11: nothing new", *witness(MIRROR, OLD))
+    assert "stops nothing" not in said
+    past.dated(-2 * 3600)
+    said = past.publish(0, "calls 11: nothing new", *witness(MIRROR, OLD))
+    wanted = f"{OLD} stops nothing: it has 5 calls, and 11 were published at least an hour ago"
+    expect(re.findall("witness (.* ago)", said), [wanted], "a mirror that is behind")
 
 
-def test_a_witness_without_an_audit_is_a_fault(signed: Place) -> None:
-    signed.desk.file("empty", b"")
-    signed.publish(3, "the witness empty has no audit", "--witness", "empty")
-    with served(files()) as (url, _):
-        signed.publish(3, "HTTP Error 404", "--witness", f"{url}/none")
-    signed.publish(3, f"the witness {url}/none: ", "--witness", f"{url}/none")
+FALSE = b"owner %s\ncalls 9999999\nminutes %s\n" % (OWNER.encode(), bytes(64))
+
+
+def test_what_our_key_did_not_sign_stops_nothing(past: Place) -> None:
+    """Whatever it says, wherever it leads; and a checkpoint takes --key."""
+    past.publish(2, "--witness takes --key", "--witness", MIRROR)
+    ran("ssh-keygen", "-q", "-t", "ed25519", "-N", "", "-f", past.room / "mallory")
+    mirror, false = past.room / "mirror", past.room / "false"
+
+    def stops_nothing(says: str, where: str | Path = false) -> None:
+        past.publish(0, "calls 11: nothing new", *witness(where))
+        said = past.publish(0, f"the witness {where} stops nothing: ", *witness(where))
+        assert says in said, said
+
+    stops_nothing("No such file")
+    false.write_bytes(FALSE)
+    stops_nothing("false.sig: No such file")
+    shutil.copy(mirror / "checkpoint.txt.sig", past.room / "false.sig")
+    stops_nothing("Signature verification failed")
+    for key, what in (("mallory", "kovelamiru-checkpoint"), ("publisher", "kovelamiru-publish")):
+        (past.room / "false.sig").unlink()
+        ran("ssh-keygen", "-q", "-Y", "sign", "-f", key, "-n", what, "false", cwd=past.room)
+        stops_nothing("")
+    with served(files(mirror)) as (url, asked):
+        stops_nothing("status 404", f"{url}/none")
+        asked.clear()
+        with served(lambda path: f"{url}{path}") as (other, _):
+            stops_nothing("status 302", f"{other}/checkpoint.txt")
+        expect(asked, [], "where a redirect leads")
+    stops_nothing("no connection to", f"{other}/checkpoint.txt")
+
+
+def test_a_checkpoint_of_another_owners_desk_stops_nothing(past: Place) -> None:
+    other = past.room / "other"
+    other.write_bytes(FALSE.replace(OWNER[:8].encode(), b"99999999"))
+    words = "-Y sign -f publisher -n kovelamiru-checkpoint".split()
+    ran("ssh-keygen", "-q", *words, "other", cwd=past.room)
+    past.publish(0, "stops nothing: it is of another owner's desk", *witness(other))
 
 
 # ---- a desk that lies, after its last publication at call 11

@@ -1,13 +1,18 @@
-"""A change of db takes a second officer's line, signed, for this change alone."""
+"""A change of db takes a second officer's line, signed, for this change alone. Until then db stays,
+and all else goes out."""
 from __future__ import annotations
 
 import os
+import re
 
 import pytest
 
-from checks.publish.place import Place, Stage, made_certificate, made_key, tbs_of
-from checks.support.images import sha256
+from checks.publish.place import (
+    FILES, Place, Stage, made_certificate, made_key, number, tbs_of,
+)
+from checks.support.images import OWNER, sha256
 from checks.support.program import Program
+from checks.support.says import expect
 from checks.support.tools import needs, ran
 
 pytestmark = pytest.mark.needs("openssl", "ssh-keygen")
@@ -70,10 +75,17 @@ def signs(place: Place, key: str, line: str, purpose: str = PURPOSE) -> None:
         os.chown(place.room / "consent", 65534, -1)
 
 
-def refuses(place: Place, status: int, says: str) -> None:
-    """Nothing is published."""
-    place.publish(status, says, *WITH)
-    place.shows(4)
+def holds(place: Place, calls: int, says: str) -> None:
+    """All else is published, with the db of call 4, in which nothing was listed."""
+    place.publish(0, f"db stays as of call 4: db changed by {says}", *WITH)
+    expect((place.link / "db.esl").read_bytes(), b"", "the db of call 4")
+    place.shows(calls, db=place.desk.gives("db", place.db))
+    for name in ("dbx", "level", "minutes"):
+        expect((place.link / FILES[name]).read_bytes(), place.desk.gives(name, place.db), name)
+    lines = (place.link / "minutes.txt").read_bytes().splitlines(keepends=True)
+    before = place.desk.file("before.txt", b"".join(lines[:4]))
+    audit = place.desk.gives("audit", OWNER, before)
+    expect((place.link / "audit-db.txt").read_bytes(), audit, "audit-db.txt")
 
 
 def test_its_two_options_go_together(consent: Place) -> None:
@@ -81,21 +93,22 @@ def test_its_two_options_go_together(consent: Place) -> None:
 
 
 def test_who_changed_db_and_the_line_are_told(consent: Place) -> None:
-    line = f"takes a line `{db_of(consent)} 5 NAME`"
-    refuses(consent, 1, f"refused consent: db changed by olga; consent isn't there, and {line}")
+    holds(consent, 5, f"olga; consent isn't there, and takes a line `{db_of(consent)} 5 NAME`")
 
 
 @pytest.mark.parametrize("what", REFUSED)
-def test_anything_else_is_refused(consent: Place, what: str) -> None:
+def test_with_anything_else_db_stays(consent: Place, what: str) -> None:
     key, line, purpose, says = REFUSED[what]
     signs(consent, key, line.format(db_of(consent)), purpose)
-    refuses(consent, 1, says.format(db_of(consent)))
+    holds(consent, 5, f"olga; {'' if says.startswith('consent ') else 'consent '}"
+          + says.format(db_of(consent)))
 
 
 def test_signers_that_others_can_write_are_refused(consent: Place) -> None:
     signs(consent, "otto", f"{db_of(consent)} 5 otto")
     (consent.room / "signers").chmod(0o664)
-    refuses(consent, 2, "others can write signers")
+    consent.publish(2, "others can write signers", *WITH)
+    consent.shows(4)
 
 
 def publishes(place: Place, calls: int) -> None:
@@ -118,11 +131,48 @@ def test_consent_is_for_one_change_alone(consent: Place) -> None:
     old = {name: (consent.room / name).read_bytes() for name in ("consent", "consent.sig")}
     consent.unlists(tbs_of(consent.room, der))
     assert db_of(consent) != db, "unlisted, and db stays"
-    consent.publish(1, f"`{db_of(consent)} 6 NAME`", *WITH)
+    consent.publish(0, f"`{db_of(consent)} 6 NAME`", *WITH)
     publishes(consent, 6)
     consent.lists(der)
     assert db_of(consent) == db, "listed again, and db is another one"
     for name, data in old.items():
         consent.desk.file(name, data)
-    consent.publish(1, f"isn't the line `{db} 7 NAME`", *WITH)
+    consent.publish(0, f"isn't the line `{db} 7 NAME`", *WITH)
     publishes(consent, 7)
+
+
+def test_one_officers_listing_holds_no_revocation_back(consent: Place) -> None:
+    """Nor do more of them; and who listed before the last publication can't consent, either."""
+    consent.revokes(number(1))
+    consent.raises("grub", 3, 2026112700)
+    holds(consent, 9, "olga; consent isn't there")
+    assert number(1) in (consent.link / "dbx.json").read_text()
+    said = consent.publish(0, "calls 9: nothing new", *WITH)
+    assert "db stays as of call 4" in said
+    signs(consent, "olga", f"{db_of(consent)} 5 olga")
+    holds(consent, 9, "olga; consent names olga: it takes an officer who didn't change db")
+    consent.lists(made_certificate(consent.room, "another"))
+    consent.revokes(number(2))
+    holds(consent, 12, "olga; consent isn't the line")
+    signs(consent, "otto", f"{db_of(consent)} 10 otto")
+    consent.publish(0, "calls 12: published", *WITH)
+    consent.shows(12)
+    consent.is_desks()
+    assert not (consent.link / "audit-db.txt").exists()
+
+
+def test_a_first_publication_without_consent_has_no_db(consent: Place) -> None:
+    consent.link.unlink()
+    consent.publish(0, "db stays as of call 0: db changed by olga", *WITH, "--first")
+    consent.shows(5, db=consent.desk.gives("db", consent.db))
+    expect((consent.link / "db.esl").read_bytes(), b"", "db")
+
+
+def test_a_db_that_was_changed_where_it_waits_is_a_fault(consent: Place) -> None:
+    holds(consent, 5, "olga")
+    audit, sums = consent.link / "audit-db.txt", consent.link / "SHA256SUMS"
+    changed = re.sub("(?m)^db .*", f"db {'0' * 64}", audit.read_text())
+    text = sums.read_text().replace(sha256(audit.read_bytes()), sha256(changed.encode()))
+    audit.write_text(changed)
+    sums.write_text(text)
+    consent.publish(3, "db.esl isn't what was published: audit-db.txt is of another one", *WITH)

@@ -18,7 +18,7 @@ from checks.support.steps import confirms, named
 # Five minutes are two seconds here, and a GiB is a MiB.
 QUICK = (
     ("reader.py", "^(ANSWER_SECONDS, ANSWER_BYTES =) 300, 1 << 30$", r"\1 2, 1 << 20"),
-    ("publish/rules.py", "^WITNESS_SECONDS = 30$", "WITNESS_SECONDS = 2"),
+    ("publish/witness.py", "^(WITNESS_SECONDS, .*) = 30, ", r"\1 = 2, "),
 )
 
 
@@ -118,7 +118,8 @@ def test_an_answer_that_does_not_end_is_a_fault(signed: Place, quick: Path) -> N
     of, says = private_token(signed, "olga"), "an answer wasn't whole after 2 seconds"
     with served(slowly, whole=False) as (url, _):
         signed.publish(3, says, by=quick, of=by(url, of))
-        signed.publish(3, says, "--witness", f"{url}/audit.txt", by=quick)
+        witness = ("--key", "publisher", "--witness", f"{url}/checkpoint.txt")
+        signed.publish(0, f"stops nothing: {says}", *witness, by=quick)
 
 
 def test_an_answer_that_is_too_long_is_a_fault(signed: Place, quick: Path) -> None:

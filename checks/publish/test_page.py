@@ -126,6 +126,8 @@ SLIPS = [
     ("no date ", r"\[11:19\]", "[11:16]"),
     ("a link to minutes.html", r'\("dbx.json", "dbx for', '("minutes.html", "dbx for'),
     ("what is said of others:", r" if now.public_minutes else \[\]\)", ")"),
+    ("whether it promises to find", "checks all of them", "finds a damaged file, but no mirror that"
+     " lies"),
     ("the policy ", r"\{style\}", "x"),
 ]
 

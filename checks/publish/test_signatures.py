@@ -10,6 +10,7 @@ from checks.publish.place import Place, number
 from checks.support.says import expect
 from checks.support.steps import named
 from checks.support.tools import ran
+from kovelamiru.update import efi_time
 
 pytestmark = pytest.mark.needs("openssl", "sign-efi-sig-list", "ssh-keygen")
 QUICK = ("publish/programs.py", "^(PROGRAM_SECONDS, SIGNING_SECONDS =) 300, 120$", r"\1 300, 2")
@@ -51,6 +52,51 @@ def test_a_command_that_waits_is_ended_with_all_that_it_began(news: Place, text:
     # (one that ended and that nobody waited for has no program)
     assert not os.path.exists(f"/proc/{began}/exe"), "what the command began goes on"
     news.shows(11)
+
+
+def dated(place: Place, name: str, *words: str) -> str:
+    """A signing command with these words more."""
+    command = 'exec sign-efi-sig-list {} -c "${{0%/*}}"/KEK.pem -k "${{0%/*}}"/KEK.key "$@"'
+    return place.script(name, command.format(" ".join(words)))
+
+
+@pytest.mark.parametrize("time, says", (
+    ("2020-01-01 00:00:00", "its time 2020-01-01 00:00:00 isn't after 20"),
+    ("2099-01-01 00:00:00", "its time 2099-01-01 00:00:00 is ahead of this clock"),
+))
+def test_an_update_that_no_firmware_takes_is_refused(signed: Place, time: str, says: str) -> None:
+    """By its time: a signing machine's clock may be wrong."""
+    signed.revokes(number(3))
+    words = ("--sign", dated(signed, "late", f"-t '{time}'"))
+    signed.publish(1, f"refused signature: firmware would refuse what dbx was signed as: {says}",
+                   *words)
+    signed.shows(11)
+
+
+def test_an_update_of_the_same_second_is_of_the_same_list(signed: Place) -> None:
+    """Firmware takes no other one: its time isn't later."""
+    was = efi_time((signed.link / "dbx.auth").read_bytes())
+    words = ("--sign", dated(signed, "same", f"-t '{was}'"))
+    signed.proposes("olga", "/dbx/digests", named(number(9)))
+    signed.publish(0, "calls 12: published", *words)
+    signed.revokes(number(3))
+    signed.publish(1, f"its time {was} isn't after {was}, that of the update before", *words)
+
+
+def test_a_time_that_is_none_is_refused(news: Place) -> None:
+    """Its field TimeZone isn't 0."""
+    spoils = 'printf x | dd of="$3" bs=1 seek=12 conv=notrunc status=none'
+    zone = f'"${{0%/*}}"/sign "$@" && {spoils}'
+    says = "refused signature: firmware would refuse what dbx was signed as: its time is none"
+    news.publish(1, says, "--sign", news.script("zone", zone))
+    news.shows(11)
+
+
+def test_an_update_that_only_appends_needs_no_time(news: Place) -> None:
+    news.publish(0, "calls 12: published", "--sign", dated(news, "appends", "-a"))
+    expect((news.link / "dbx.auth").read_bytes()[:16], bytes(16), "its time")
+    news.proposes("olga", "/dbx/digests", named(number(10)))
+    news.publish(0, "calls 13: published", "--sign", "./sign")
 
 
 def test_a_key_that_is_not_there_publishes_nothing(news: Place) -> None:

@@ -150,15 +150,16 @@ def not_a_desk(answer: Answer) -> Stop:
 
 
 def read_answer(response: http.client.HTTPResponse, seconds: float = math.inf,
-                most: float = math.inf) -> Answer:
+                most: float = math.inf, heard: Callable[[int], None] = lambda _: None) -> Answer:
     """Reads a response whole; one that is cut is none. Each piece may come in time, and all of them
-    never: so there may be so many seconds for them, and so many bytes at most."""
+    never: so there may be so many seconds for them, and so many bytes at most. What came is told."""
     length = response.getheader("Content-Length", "")
     short = length.isdecimal() and int(length) <= 8 << 20
     body: BinaryIO = io.BytesIO() if short else tempfile.TemporaryFile()  # type: ignore[assignment]
     until = time.monotonic() + seconds
     while piece := response.read1(PIECE):
         body.write(piece)
+        heard(body.tell())
         if body.tell() > most:
             broken(f"an answer has more than {most} bytes")
         if time.monotonic() > until:
@@ -181,6 +182,8 @@ class Site:
 
     def __init__(self, where: Where, context: Optional[ssl.SSLContext], token: str, program: str):
         self.where, self.context, self.program = where, context, program
+        # (it is told how much of an answer came)
+        self.heard: Callable[[int], None] = lambda _: None
         self.__token = token
 
     def seconds(self, most: float) -> float:
@@ -207,7 +210,8 @@ class Site:
             raise NoAnswer(f"no connection to {self.where}: {reason(error)}", False) from None
         try:
             self.send(connection, call, shown)
-            return read_answer(connection.getresponse(), self.most_seconds, self.most_bytes)
+            return read_answer(connection.getresponse(), self.most_seconds, self.most_bytes,
+                               self.heard)
         except (OSError, http.client.HTTPException) as error:
             raise NoAnswer(f"the answer was lost: {reason(error)}", True) from None
         finally:

@@ -19,6 +19,7 @@ from .files import synced
 from .folder import current, filled, hidden, named, published, swept
 from .page import day
 from .rules import judged
+from .witness import witnessed
 
 ABOUT = """\
 Reads the minutes, dbx, db and the level of a desk, and publishes them: FOLDER becomes a link to a
@@ -29,6 +30,8 @@ has
   shim-dbx.esl                 what dbx revokes, in the form that shim reads, as
                                `desk audit` writes it; held against dbx once more
   audit.txt                    the lines of `desk audit`: `calls N`, then SHA-256
+  audit-db.txt                 only while a change of db waits for consent: the lines of
+                               the first calls, from which db.esl follows
   checkpoint.txt               the owner, the calls and the SHA-256 of the minutes, to
                                be kept (AUDIT.md); with --key checkpoint.txt.sig
   index.html, dbx.json         for people and for programs, and not proved: the
@@ -52,16 +55,17 @@ Nothing is published, and the line on standard error begins with `desk-publish: 
 
   audit       `desk audit` refuses the minutes, or what the desk exports doesn't follow from them
   minutes     they don't begin with those published last: an older copy of the desk, or another desk
-  witness     they don't begin with those of which a mirror has the audit.txt
+  witness     they don't begin with those of which a mirror has the checkpoint, signed by --key
   dbx         it lacks an entry that was published
   level       a generation or the stamp is below the published one
-  consent     --consent, db changed, and the file of consent isn't for this change, or isn't signed
   shim        shim-dbx.esl, read again, doesn't revoke what dbx does
-  signature   the signing command failed, or what it made doesn't end with the list
+  signature   the signing command failed; or firmware wouldn't take what it made: it doesn't end with
+              the list, its time isn't after that of the update before, or is ahead of the clock
 """
 MORE = """\
 FOLDER alone shows an older copy of a desk, but not one that was restored together with it: that
-takes --witness. It holds with --first, too: leave it out until a mirror has an audit.txt.
+takes --witness, the checkpoint.txt of a mirror, with its checkpoint.txt.sig beside it. One that --key
+didn't sign, or that isn't there, stops nothing, and standard error says so.
 
 Options alone make no new publication: a changed --key or --sign takes effect with the next call.
 Once --public-minutes is left out, nobody else can read minutes.txt in any folder, though index.html
@@ -77,8 +81,9 @@ paths:
   exec sign-efi-sig-list -c /etc/KEK.crt -k /etc/KEK.key "$1" "$2" "$3"
 
 The file of consent has one line, `HEX CALLS NAME`: the SHA-256 of the new db.esl, the number of the
-call that changed db last, and the officer who looked at it. So it is for one change. `refused
-consent` prints the line. The officer signs it, which makes FILE.sig:
+call that changed db last, and the officer who looked at it. So it is for one change. Without it all
+else is published, with the db that was consented to last, and standard error prints the line. The
+officer signs it, which makes FILE.sig:
 
   ssh-keygen -Y sign -f ~/.ssh/id_ed25519 -n kovelamiru-consent FILE
 
@@ -107,7 +112,10 @@ def publish(words: argparse.Namespace, link: str) -> str:
     if not words.public_minutes:
         hidden(link)
     found = from_file(words.program, words.db) if words.db else from_url(words)
-    judged(words, last.found if last else None, found)
+    witnessed(words, last, found)
+    found, waits = judged(words, last.found if last else None, found)
+    if waits:
+        print(f"desk-publish: db stays as of call {found.db_calls}: {waits}", file=sys.stderr)
     # (as late as the last one at least, whatever the clock says)
     clock = int(time.time())
     now = max(clock, last.date if last else 0)
@@ -152,7 +160,8 @@ OPTIONS: tuple[tuple[str, dict[str, Any]], ...] = (
     ("--signers", {"metavar": "FILE", "help": "whose keys sign consent: lines `NAME KEY`"}),
     ("--key", {"metavar": "FILE", "help": "the SSH key that signs SHA256SUMS"}),
     ("--witness", {"metavar": "URL", "action": "append", "default": [],
-                   "help": "audit.txt as a mirror has it, or a file; may be repeated"}),
+                   "help": "checkpoint.txt as a mirror has it, or a file; with --key; may be"
+                   " repeated"}),
     ("--renew", {"metavar": "HOURS", "type": int, "default": 0,
                  "help": "publish again, with a new date, what is so old"}),
     ("--first", {"action": "store_true", "help": "FOLDER isn't there yet"}),
@@ -184,6 +193,8 @@ def words_of(arguments: list[str]) -> argparse.Namespace:
         words.sign = os.path.abspath(words.sign)
     if bool(words.consent) != bool(words.signers):
         parser.error("--consent and --signers go together")
+    if words.witness and not words.key:
+        parser.error("--witness takes --key: a checkpoint that nobody signed is anybody's")
     if words.keep < 2:
         parser.error("--keep is 2 at least: readers may still be in the last one")
     return words

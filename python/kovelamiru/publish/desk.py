@@ -4,6 +4,7 @@ from __future__ import annotations
 import argparse
 import hashlib
 from dataclasses import dataclass
+from typing import Optional
 
 from ..faults import Unreadable, broken
 from ..reader import Reader
@@ -22,23 +23,32 @@ def digest(data: bytes) -> str:
 
 @dataclass(frozen=True)
 class Found:
-    """The desk as it was at one moment."""
+    """The desk as it was at one moment; its db may be that of fewer calls, if a later change of it
+    waits for consent."""
 
     minutes: bytes
     dbx: bytes
     db: bytes
     level: bytes
+    held: Optional[int] = None
 
     @property
     def calls(self) -> int:
         return self.minutes.count(b"\n")
+
+    @property
+    def db_calls(self) -> int:
+        """The calls from which db follows."""
+        return self.calls if self.held is None else self.held
 
     def lists(self) -> dict[str, bytes]:
         return dict(zip(LISTS, (self.dbx, self.db, self.level)))
 
     def audit(self) -> dict[str, str]:
         """What an audit of the minutes has to tell."""
-        sums = {name: digest(getattr(self, name)) for name in ("minutes", "dbx", "db", "level")}
+        names = [name for name in ("minutes", "dbx", "db", "level")
+                 if name != "db" or self.held is None]
+        sums = {name: digest(getattr(self, name)) for name in names}
         return {"calls": str(self.calls), **sums}
 
 

@@ -12,16 +12,18 @@ from typing import NoReturn, Optional
 
 from ..faults import Unreadable, broken
 from ..shim import NAME as SHIM, difference
-from ..update import certificate_length
+from ..update import certificate_length, efi_time
 from .desk import LISTS, Found, audit_of, digest
 from .files import read, synced, write
 from .page import Before, Publication, day, dbx_json, firsts_of, index
 from .programs import SIGNING_SECONDS, audited, ran, refused, said_by, signature
-from .rules import follows
+from .rules import db_follows, follows
 
 # What signatures are for, by their namespaces.
 PUBLISH, MINUTES = "kovelamiru-publish", "kovelamiru-checkpoint"
 PAGE, JSON, CHECKPOINT = "index.html", "dbx.json", "checkpoint.txt"
+# Of the calls from which db follows, where a later change of it waits for consent.
+DB_AUDIT = "audit-db.txt"
 
 
 def unpublished(link: str, name: str, text: str) -> NoReturn:
@@ -43,14 +45,19 @@ def published(link: str) -> Before:
             sums[one[2]] = one[1]
     names = {*sums, *LISTS, "audit.txt", "minutes.txt"}
     data = {name: read(os.path.join(at, name)) for name in names}
-    found = Found(data["minutes.txt"], *(data[name] for name in LISTS))
+    of_db = audit_of(data.get(DB_AUDIT, b""))
+    dbx, db, level = (data[name] for name in LISTS)
+    found = Found(data["minutes.txt"], dbx, db, level, int(of_db["calls"]) if of_db else None)
     for name in sorted({*sums, *LISTS, "audit.txt"}):
         if sums.get(name) != digest(data[name]):
             unpublished(link, name, "its SHA-256 is another one")
     told = audit_of(data["audit.txt"])
     if any(told.get(name) != value for name, value in found.audit().items()):
         unpublished(link, "minutes.txt", "audit.txt is of other files")
-    return Before(found, date, firsts_of(data[JSON]) if JSON in data else {})
+    if of_db and of_db.get("db") != digest(found.db):
+        unpublished(link, "db.esl", f"{DB_AUDIT} is of another one")
+    times = {name: efi_time(one) for name, one in data.items() if name.endswith(".auth")}
+    return Before(found, date, firsts_of(data[JSON]) if JSON in data else {}, times)
 
 
 def folders(link: str) -> list[str]:
@@ -102,6 +109,26 @@ def update(command: str, name: str, data: bytes, folder: str) -> bytes:
         shutil.rmtree(folder)
 
 
+def untimely(made: bytes, name: str, data: bytes, last: Optional[Before]) -> None:
+    """Ends the run where firmware wouldn't take an update for its time, or no later one after it.
+    (UEFI 2.10, section 8.2.2: the time is later than that of the update before, and has no fields
+    but date and time; one that only appends may have none.)"""
+    if not any(made[:16]):
+        return
+    when, was = efi_time(made), last.times.get(f"{name}.auth") if last else None
+    latest = time.strftime("%Y-%m-%d %H:%M:%S", time.gmtime(time.time() + 86400))
+    same = last is not None and getattr(last.found, name) == data
+    odd = ""
+    if when is None or any(made[7:16]):
+        odd = "its time is none"
+    elif when > latest:
+        odd = f"its time {when} is ahead of this clock, and no later update could follow"
+    elif was and (when < was or when == was and not same):
+        odd = f"its time {when} isn't after {was}, that of the update before"
+    if odd:
+        refused("signature", f"firmware would refuse what {name} was signed as: {odd}")
+
+
 def ends_with(made: bytes, data: bytes) -> bool:
     """Whether it is an authenticated update with these lists."""
     try:
@@ -126,6 +153,8 @@ def filled(words: argparse.Namespace, link: str, whole: str, now: int, found: Fo
     write(os.path.join(new, "minutes.txt"), found.minutes, 0o644 if words.public_minutes else 0o600)
     minutes = os.path.join(new, "minutes.txt")
     files = {**found.lists(), "audit.txt": follows(words.program, words.owner, found, minutes)}
+    if found.held is not None:
+        files[DB_AUDIT] = db_follows(words.program, words.owner, found)
     files[SHIM] = audited(words.program, words.owner, minutes, "shim")
     odd = difference(files[SHIM], words.owner, found.minutes, found.dbx)
     if odd:
@@ -133,7 +162,9 @@ def filled(words: argparse.Namespace, link: str, whole: str, now: int, found: Fo
     if words.sign:
         for name, data in (("dbx", found.dbx), ("db", found.db)):
             if data:
-                files[f"{name}.auth"] = update(words.sign, name, data, f"{link}.sign")
+                made = update(words.sign, name, data, f"{link}.sign")
+                untimely(made, name, data, last)
+                files[f"{name}.auth"] = made
     files[CHECKPOINT] = (f"owner {words.owner.lower()}\ncalls {found.calls}\n"
                          f"minutes {digest(found.minutes)}\n").encode()
     if words.key:

@@ -65,6 +65,8 @@ class Before:
     # When each entry of its dbx was published first; none for one that was published before there
     # was a dbx.json.
     firsts: dict[Entry, Optional[str]]
+    # The time of each authenticated update.
+    times: dict[str, Optional[str]]
 
 
 @dataclass(frozen=True)
@@ -80,6 +82,11 @@ class Publication:
     public_minutes: bool
     updates: Sequence[str]
     before: Optional[Before]
+
+    @property
+    def held(self) -> bool:
+        """Whether a change of db waits for consent."""
+        return self.found.held is not None
 
 
 def day(date: int) -> str:
@@ -230,10 +237,12 @@ def check(now: Publication) -> list[str]:
                    " than this mirror")
     minutes = ('with <a href="minutes.txt">minutes.txt</a>'
                if now.public_minutes else "for whoever was handed the minutes")
+    finds = "checks all of them" if now.signed else (
+        "finds a damaged file, but no mirror that lies: SHA256SUMS isn't signed")
     return [
         "<h2>Check it</h2>",
-        "<p>Whoever has a mirror can change its page, so check the files. The first line checks all"
-        f" of them{signers}. The second, {minutes}, prints what stands below it.</p>",
+        f"<p>Whoever has a mirror can change its page, so check the files. The first line {finds}"
+        f"{signers}. The second, {minutes}, prints what stands below it.</p>",
         f"<pre>{escape(sums)}\n{escape(f'desk audit {now.owner} minutes.txt')}</pre>",
         f"<pre>{escape(now.audit.decode().rstrip())}</pre>"]
 
@@ -249,6 +258,8 @@ def files(now: Publication) -> list[str]:
         *((name, f"an authenticated update of {name[:-5]}") for name in now.updates),
         ("dbx.json", "dbx for programs: each entry, and when it was published first"),
         ("audit.txt", "what <code>desk audit</code> says of the minutes"),
+        *([("audit-db.txt", f"the same of the first {now.found.db_calls:,} calls: db.esl is theirs,"
+            " since a later change of db waits for a second officer")] if now.held else []),
         ("checkpoint.txt", "which minutes these are, to be kept"),
         *([("checkpoint.txt.sig", "its signature")] if now.signed else []),
         *([("minutes.txt", "each call that the desk accepted")] if now.public_minutes else []),

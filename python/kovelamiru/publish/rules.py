@@ -2,21 +2,16 @@
 from __future__ import annotations
 
 import argparse
-import http.client
 import os
 import re
-import ssl
-import urllib.request
+from dataclasses import replace
 from typing import Iterator, Optional
 
-from ..faults import NoAnswer, broken, wrong
-from ..http import read_answer
+from ..faults import broken, wrong
 from .desk import Found, audit_of, digest, entries, level_of, lines
 from .files import read
-from .programs import SIGNING_SECONDS, audited, ran, refused, said_by
+from .programs import audited, refused, unsigned
 
-# How long a mirror may take.
-WITNESS_SECONDS = 30
 # What a signature of consent is for, by its namespace.
 CONSENT = "kovelamiru-consent"
 
@@ -29,6 +24,14 @@ def follows(program: str, owner: str, found: Found, minutes: str) -> bytes:
         if told.get(name) != value:
             refused("audit",
                     f"{name} of the desk is {value}, and by its minutes {told.get(name, 'none')}")
+    return said
+
+
+def db_follows(program: str, owner: str, found: Found) -> bytes:
+    """A db that was consented to earlier follows from the calls of then: the audit's lines."""
+    said = audited(program, owner, "-", given=b"".join(lines(found.minutes)[:found.db_calls]))
+    if audit_of(said).get("db") != digest(found.db):
+        refused("audit", f"db isn't that of call {found.db_calls}, with which it was published")
     return said
 
 
@@ -51,37 +54,6 @@ def extends(last: Found, found: Found) -> None:
             refused("level", f"{name} has {new.get(name, 0)}, and {generation} was published")
 
 
-# ---- what a mirror has
-
-
-def fetched(where: str, ca: Optional[str]) -> bytes:
-    """An audit.txt by its URL, or in a file."""
-    if not re.match("https?://", where):
-        return read(where)
-    tls = ssl.create_default_context()
-    try:
-        if ca:
-            tls.load_verify_locations(ca)
-        with urllib.request.urlopen(where, timeout=WITNESS_SECONDS, context=tls) as answer:
-            return read_answer(answer, WITNESS_SECONDS, 4096).data()
-    except (NoAnswer, OSError, ValueError, http.client.HTTPException) as error:
-        broken(f"the witness {where}: {error}")
-
-
-def witnessed(where: str, ca: Optional[str], found: Found) -> None:
-    """The minutes begin with those of which a mirror has the audit."""
-    told = audit_of(fetched(where, ca))
-    calls = told.get("calls", "")
-    if not re.fullmatch("[0-9]{1,7}", calls) or "minutes" not in told:
-        broken(f"the witness {where} has no audit")
-    if found.calls < int(calls):
-        refused("witness", f"they have {found.calls} calls, and those of {where} {calls}: an older"
-                " copy of the desk")
-    if digest(b"".join(lines(found.minutes)[:int(calls)])) != told["minutes"]:
-        refused("witness", f"their first {calls} calls aren't those of {where}: an older copy of"
-                " the desk, or another desk")
-
-
 # ---- consent
 
 
@@ -94,32 +66,30 @@ def parts_of(minutes: bytes) -> Iterator[tuple[int, str, list[str]]]:
         yield number, parts[1], parts[3].split(" ")
 
 
-def consented(words: argparse.Namespace, last: Optional[Found], found: Found) -> None:
-    """Another officer than those who changed db has looked at it since, and signed that."""
+def consented(words: argparse.Namespace, last: Optional[Found], found: Found) -> str:
+    """Another officer than those who changed db has looked at it since, and signed that: nothing,
+    or what isn't so."""
     if found.db == (last.db if last else b""):
-        return
+        return ""
     changes = [(number, caller) for number, caller, text in parts_of(found.minutes)
                if text[0] in ("list-digest", "list-certificate", "unlist")]
-    changed = {caller for number, caller in changes if number > (last.calls if last else 0)}
+    changed = {caller for number, caller in changes if number > (last.db_calls if last else 0)}
     wanted = f"{digest(found.db)} {changes[-1][0] if changes else 0}"
     text = f"db changed by {', '.join(sorted(changed))}; {words.consent} "
     if not os.path.lexists(words.consent):
-        refused("consent", text + f"isn't there, and takes a line `{wanted} NAME`")
+        return text + f"isn't there, and takes a line `{wanted} NAME`"
     data = read(words.consent)
     line = re.fullmatch(rb"([0-9a-f]{64} [0-9]+) ([a-z][a-z0-9-]{0,31})\n", data)
     if not line or line[1].decode() != wanted:
-        refused("consent", text + f"isn't the line `{wanted} NAME`")
+        return text + f"isn't the line `{wanted} NAME`"
     name = line[2].decode()
     officers = {text[1] for _, _, text in parts_of(found.minutes)
                 if text[0] == "add-person" and text[2:3] == ["officer"]}
     if name not in officers - changed:
-        refused("consent", text + f"names {name}: it takes an officer who didn't change db")
+        return text + f"names {name}: it takes an officer who didn't change db"
     kept(words.signers)
-    done = ran("ssh-keygen", ["ssh-keygen", "-Y", "verify", "-f", words.signers, "-I", name, "-n",
-                              CONSENT, "-s", f"{words.consent}.sig"], SIGNING_SECONDS, data)
-    if done.returncode != 0:
-        said = said_by(done) or done.stdout.decode(errors="replace").strip()
-        refused("consent", text + f"isn't signed by {name}: {said}")
+    said = unsigned(words.signers, name, CONSENT, f"{words.consent}.sig", data)
+    return text + f"isn't signed by {name}: {said}" if said else ""
 
 
 def kept(path: str) -> None:
@@ -132,11 +102,12 @@ def kept(path: str) -> None:
         wrong(f"others can write {path}")
 
 
-def judged(words: argparse.Namespace, last: Optional[Found], found: Found) -> None:
-    """Ends the run where one of them doesn't hold; those of a new folder's files come with it."""
-    for where in words.witness:
-        witnessed(where, words.ca, found)
+def judged(words: argparse.Namespace, last: Optional[Found], found: Found) -> tuple[Found, str]:
+    """What may be published, and why its db isn't the desk's, if it is the one that was consented
+    to last. Ends the run where a rule doesn't hold; those of a new folder's files come with it."""
     if last is not None:
         extends(last, found)
-    if words.consent:
-        consented(words, last, found)
+    waits = consented(words, last, found) if words.consent else ""
+    if waits:
+        found = replace(found, db=last.db if last else b"", held=last.db_calls if last else 0)
+    return found, waits
