@@ -29,8 +29,9 @@ images, for votes, for revocations that one officer proposes and another confirm
 proved, and it decides nothing; the desk does. It checks no signature.
 
 Results go to standard output, all else to standard error. On a terminal a list is a table that
-fits it; otherwise a line a row, fields parted by tabs, nothing cut. `--json` prints the desk's
-own JSON, as desk-http(7) has it."""
+fits it; of one that is longer than the terminal `$PAGER`, or less, shows a screen at a time.
+Otherwise a list is a line a row, fields parted by tabs, nothing cut. `--json` prints the desk's own
+JSON, as desk-http(7) has it."""
 SETTINGS = """\
 An option comes before the environment, and that before the file `~/.config/deskctl.conf`:
 
@@ -134,7 +135,8 @@ FILES = (("~/.config/deskctl.conf",
            " moves it.")))
 ENVIRONMENT = (
     ("DESK_URL, DESK_TOKEN_FILE, DESK_CA, DESK_CERT, DESK_CERT_KEY, DESK_NAME, DESK_PROGRAM",
-     "As the options of these names."), ("DESK_TOKEN", "Not read."))
+     "As the options of these names."), ("DESK_TOKEN", "Not read."),
+    ("PAGER", "Shows a long list of requests or proposals on a terminal; `cat`, or empty: none."))
 EXAMPLES = """\
 A build system asks for a signature, and waits a day for it:
 
@@ -229,16 +231,20 @@ def bash() -> str:
         kinds = " ".join(f"'{kind_of(more)}'" for _, more in places) or "''"
         its = " ".join(name for named_, _ in options for name in named_)
         many = "yes" if any("nargs" in more for _, more in places) else ""
-        rows.append(f"        {one.name}) options='{its}' places=({kinds}) many={many} ;;")
+        chosen = " ".join(f"['{named_[0]}']='{kind_of(more)}'" for named_, more in options
+                          if "choices" in more)
+        rows.append(f"        {one.name}) options='{its}' places=({kinds}) many={many}"
+                    f" values=({chosen}) ;;")
     values = {}
     for names_, more in list(OPTIONS) + [it for one in COMMANDS for it in split(one.words)[0]]:
         if kind_of(more) != "-":
             for name in names_:
                 values.setdefault(name, kind_of(more))
-    values["--state"] = "STATES"
-    return BASH.format(names=names, general=general, rows="\n".join(rows),
-                       files="|".join(it for it, kind in values.items() if kind == "FILES"),
-                       texts="|".join(it for it, kind in values.items() if kind == ""))
+    of_kind = {kind: "|".join(it for it, its in values.items() if its == kind)
+               for kind in ("FILES", "")}
+    choices = "|".join(it for it, kind in values.items() if kind not in ("FILES", ""))
+    return BASH.format(names=names, general=general, rows="\n".join(rows), files=of_kind["FILES"],
+                       texts=of_kind[""], choices=choices)
 
 
 BASH = """\
@@ -247,11 +253,12 @@ _deskctl() {{
     local word=${{COMP_WORDS[COMP_CWORD]}} before=${{COMP_WORDS[COMP_CWORD - 1]}}
     local command='' options='' many='' at=0 skip='' one kind
     local -a places=()
+    local -A values=()
     COMPREPLY=()
     for one in "${{COMP_WORDS[@]:1:COMP_CWORD - 1}}"; do
         if [ -n "$skip" ]; then skip=''; continue; fi
         case $one in
-            {files}|{texts}|--state) skip=yes ;;
+            {files}|{texts}|{choices}) skip=yes ;;
             -*) ;;
             *) if [ -z "$command" ]; then command=$one; else at=$((at + 1)); fi ;;
         esac
@@ -263,10 +270,7 @@ _deskctl() {{
     case $before in
         {files}) kind=FILES ;;
         {texts}) return 0 ;;
-        --state)
-            kind='open approved rejected withdrawn signed'
-            if [ "$command" = proposals ]; then kind='open confirmed dropped'; fi
-            ;;
+        {choices}) kind=${{values[$before]-}} ;;
         *)
             if [[ $word == -* ]]; then kind="$options {general} --help"
             elif [ -z "$command" ]; then kind='{names} help'

@@ -120,11 +120,11 @@ def test_a_day_has_the_minutes_of_plain_requests(
 def at_terminals(office: Office) -> None:
     """A table fits the terminal; bytes don't go to one; a long upload shows how far it is."""
     olga, ann = office["olga"], office["ann"]
-    for columns, digits in ((200, 12), (76, 12), (50, 6)):
+    for columns, has_file in ((200, True), (76, False), (50, False)):
         status, said = olga.asked("requests", size=(20, columns))
         lines = said.splitlines()
         assert (status, lines[0][:6]) == (0, "NUMBER") and max(map(len, lines)) <= columns, said
-        assert sha256(SIGNED)[:digits] in said, said
+        assert (sha256(SIGNED)[:12] in said) == has_file, said
     status, said = olga.asked("get dbx")
     assert status == 2 and "-o FILE" in said, said
     status, said = olga.asked("token")

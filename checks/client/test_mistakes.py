@@ -162,7 +162,9 @@ def test_a_captive_portals_page_is_no_answer_and_gets_no_command(
 ) -> None:
     olga, ann = office["olga"].at(between.url), office["ann"].at(between.url)
     page, text = answer(200, b"<html>Log in</html>", HTML), "isn't a desk's: 200, text/html"
-    between.shows = {path: page for path in ("/level", "/report", "/requests", "/dbx", "/db")}
+    between.shows = {path: page for path in (
+        "/level", "/report", "/requests/from/1", "/dbx", "/db"
+    )}
     for line in ("requests", "requests --json", "report", "get level", "get dbx",
                  "facts plain.efi"):
         expect(olga.ends(3, line, text, "is the desk there?"), "", "what is printed")

@@ -5,6 +5,7 @@ import { field, h, heading, quiet } from './dom.js';
 import { badge, requestLink } from './marks.js';
 import { choices, paged } from './table.js';
 import { listed } from '../desk/lists.js';
+import { requestMatches } from '../desk/search.js';
 import { me, withYou } from '../desk/session.js';
 import { wire } from '../formats/wire.js';
 import { counted, size, stateChoices, stateCounts, voteWords } from '../formats/words.js';
@@ -89,8 +90,7 @@ function queue(place) {
     });
 
     function show() {
-        const text = last.text.trim().toLowerCase();
-        const like = requests.filter((request) => text === '' || matches(request, text));
+        const like = requests.filter((request) => requestMatches(request, last.text));
         const rows = like.filter(({ state }) => last.state === 'all' || state === last.state);
         states.show(last.state, stateCounts(like));
         table.set(rows, last.from);
@@ -100,12 +100,4 @@ function queue(place) {
         requests = some;
         show();
     };
-}
-
-/** @param {Request} request @param {string} text in lower case */
-function matches({ number, title, submitter, file, digest, signing, returned }, text) {
-    if (String(number) === text || submitter.includes(text)) return true;
-    if (title.toLowerCase().includes(text)) return true;
-    const names = [file, digest, signing, returned ?? ''];
-    return text.length >= 8 && names.some((name) => name.startsWith(text));
 }

@@ -1,12 +1,32 @@
 """The terminal: results, notes, tables, questions, and the bar of an upload."""
 from __future__ import annotations
 
+import os
 import shutil
+import signal
+import subprocess
 import sys
-from typing import Sequence, TextIO
+from typing import Optional, Sequence, TextIO
 
 from .faults import wrong
 from .words import brief, cut, printable
+
+
+def widths_of(cells: Sequence[Sequence[str]]) -> list[int]:
+    return [max(map(len, column)) for column in zip(*cells)]
+
+
+def fitted(cells: Sequence[Sequence[str]], stretch: int, room: int) -> list[str]:
+    """Rows as lines of this width at most, by cutting the column `stretch` first."""
+    widths = widths_of(cells)
+    over = sum(widths) + 2 * (len(widths) - 1) - room
+    if over > 0:
+        less = min(over, max(widths[stretch] - 8, 0))
+        widths[stretch] -= less
+        for _ in range(over - less):
+            widths[widths.index(max(widths))] -= 1
+    return ["  ".join(cut(cell, width).ljust(width) for cell, width in zip(row, widths)).rstrip()
+            for row in cells]
 
 
 class Terminal:
@@ -35,9 +55,10 @@ class Terminal:
         self.out.flush()
 
     def table(self, heads: Sequence[str], rows: Sequence[Sequence[object]], stretch: int,
-              none: str) -> None:
-        """A table: on a terminal with heads and as wide as that is, the column `stretch` cut short,
-        or a note that there is none; else tabs and nothing cut."""
+              none: str, spare: Optional[int] = None, paged: bool = False) -> None:
+        """A table: on a terminal with heads and as wide as that is, without the column `spare`
+        where that is too wide, and the column `stretch` cut short, or a note that there is none;
+        else tabs and nothing cut."""
         if not rows:
             if self.wide:
                 self.note(none)
@@ -47,19 +68,33 @@ class Terminal:
             for row in cells:
                 self.say("\t".join(row))
             return
-        cells.insert(0, list(heads))
-        cells = [[brief(cell) if at != stretch else cell for at, cell in enumerate(row)]
-                 for row in cells]
-        widths = [max(len(row[at]) for row in cells) for at in range(len(heads))]
-        over = sum(widths) + 2 * (len(heads) - 1) - shutil.get_terminal_size().columns
-        if over > 0:
-            less = min(over, max(widths[stretch] - 8, 0))
-            widths[stretch] -= less
-            for _ in range(over - less):
-                widths[widths.index(max(widths))] -= 1
-        for row in cells:
-            shown = [cut(cell, widths[at]).ljust(widths[at]) for at, cell in enumerate(row)]
-            self.say("  ".join(shown).rstrip())
+        cells = [list(heads)] + [[brief(cell) if at != stretch else cell
+                                  for at, cell in enumerate(row)] for row in cells]
+        room = shutil.get_terminal_size().columns
+        if spare is not None and sum(widths_of(cells)) + 2 * (len(heads) - 1) > room:
+            cells = [[cell for at, cell in enumerate(row) if at != spare] for row in cells]
+            stretch -= spare < stretch
+        lines = fitted(cells, stretch, room)
+        if paged:
+            self.page(lines)
+        else:
+            self.say("\n".join(lines))
+
+    def page(self, lines: Sequence[str]) -> None:
+        """Lines, through $PAGER or less where the terminal hasn't so many, as git shows them."""
+        pager = os.environ.get("PAGER", "less")
+        if len(lines) >= shutil.get_terminal_size().lines and pager not in ("", "cat"):
+            self.flush()
+            environment = {"LESS": "FRX", **os.environ}
+            environment.pop("DESK_TOKEN", None)
+            began = subprocess.Popen(["sh", "-c", pager], stdin=subprocess.PIPE, env=environment)
+            # Ctrl-C is the pager's.
+            before = signal.signal(signal.SIGINT, signal.SIG_IGN)
+            began.communicate("".join(f"{line}\n" for line in lines).encode())
+            signal.signal(signal.SIGINT, before)
+            if began.returncode not in (126, 127):
+                return
+        self.say("\n".join(lines))
 
     def rows(self, pairs: Sequence[tuple[str, object]]) -> None:
         """A name and its value a line."""

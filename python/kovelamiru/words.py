@@ -14,7 +14,12 @@ def printable(text: object) -> str:
 
 
 def cut(text: str, width: int) -> str:
-    return text if len(text) <= width else text[:width - 1] + "~"
+    """Text of a width at most: titles and names are told apart by their ends, so it loses its
+    middle."""
+    if len(text) <= width:
+        return text
+    end = width // 2
+    return text[:width - 1 - end] + "~" + text[len(text) - end:]
 
 
 def brief(cell: str) -> str:

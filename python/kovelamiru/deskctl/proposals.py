@@ -5,28 +5,30 @@ from dataclasses import dataclass
 from typing import Any, Optional
 
 from ..answers import Counts, Impact, Proposal, me_of, proposal_in, said_number, shaped
+from ..described import WORDS
 from ..doubts import Known, known, level_doubts
 from ..faults import REFUSED, Refused, Stop, wrong
 from ..http import Call
 from ..questions import plain_question, rule_words
+from ..search import proposal_matches
 from ..standing import level_of
 from ..words import KINDS, counted, kinds, printable
+from .listing import List, show
 from .run import OTHER_DESK, Replies, Run, act
 
 
+ALL = List("/proposals", "officer", proposal_matches, "of this number or officer",
+           tuple(WORDS["proposals"]))
+
+
+def proposal_row(value: dict[str, Any]) -> tuple[object, ...]:
+    one = shaped(Counts, value)
+    return one.number, one.state, one.digests, one.certificates, one.components, one.officer
+
+
 def proposals(run: Run) -> None:
-    taken = [value for value in run.desk.items("/proposals")
-             if run.words.state in (None, value.get("state"))]
-    if run.words.json:
-        run.print_json(taken)
-        return
-    rows = []
-    for value in taken:
-        one = shaped(Counts, value)
-        rows.append(
-            (one.number, one.state, one.digests, one.certificates, one.components, one.officer))
-    run.terminal.table(("NUMBER", "STATE", "DIGESTS", "CERTIFICATES", "COMPONENTS", "OFFICER"),
-                       rows, 5, "No such proposal.")
+    show(run, ALL, ("NUMBER", "STATE", "DIGESTS", "CERTIFICATES", "COMPONENTS", "OFFICER"), 5,
+         proposal_row)
 
 
 BLIND = ("this desk doesn't show what a proposal names, nor what it bars: its program is older than"
@@ -40,10 +42,11 @@ def shown_proposal(run: Run, number: int) -> Optional[dict[str, Any]]:
 
 
 def row_of(run: Run, number: int) -> Counts:
-    for value in run.desk.items("/proposals"):
+    for value in run.desk.listed("/proposals", number):
         one = shaped(Counts, value)
         if one.number == number:
             return one
+        break
     raise Refused(37, "NoSuchProposal")
 
 

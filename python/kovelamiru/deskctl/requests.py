@@ -2,11 +2,9 @@
 from __future__ import annotations
 
 import hashlib
-import io
 import math
-import shutil
 import time
-from typing import Optional
+from typing import Any, Optional
 
 from ..answers import Request, me_of, request_of, said_number, shaped
 from ..described import LIMITS, WORDS
@@ -14,16 +12,22 @@ from ..desk import LONGEST_PAUSE
 from ..facts import gap_words
 from ..faults import LOST, REFUSED, Lost, Stop, wrong
 from ..files import IMAGE_LIMIT, read_file
-from ..http import JSON, Call
+from ..http import Call
 from ..pe import has_sbat
 from ..pkcs7 import signatures_of
 from ..questions import carried_question, plain_question, rule_words, yes_question
+from ..search import request_matches
 from ..standing import barred_by, standing_of
 from ..words import desk_json, printable
 from .images import facts_of
+from .listing import List, show
 from .run import OTHER_DESK, Replies, Run, act
-from .settings import config_path
 from .verdicts import body_causes, carried_words, verdict_causes
+
+ALL = List(
+    "/requests", "submitter", request_matches,
+    "with it in title or submitter, of this number, or whose digest begins so",
+    tuple(WORDS["requests"]), ("title",))
 
 
 def ascii_text(text: str, what: str, least: int, most: int) -> str:
@@ -65,37 +69,14 @@ def submit(run: Run) -> None:
         **body_causes(path, data), 28: lambda _: verdict_causes(run, path, data)})
 
 
-def own_name(run: Run) -> str:
-    """The caller's name: as it is given, or as the desk has it."""
-    me = None if run.settings.name else me_of(run.desk)
-    name = me.name if me else run.settings.name
-    if not name:
-        wrong("--mine needs your name, which this desk doesn't tell",
-              f"Give --name NAME, DESK_NAME, or `name = NAME` in {config_path()}.")
-    return name
+def request_row(value: dict[str, Any]) -> tuple[object, ...]:
+    one = shaped(Request, value)
+    votes = " ".join(f"{vote['reviewer']}:{vote['vote']}" for vote in one.votes) or "-"
+    return one.number, one.state, one.submitter, votes, one.file, one.title
 
 
 def requests(run: Run) -> None:
-    words = run.words
-    name = own_name(run) if words.mine else None
-    if words.json and not words.state and not words.mine:
-        answer = run.desk.get("/requests").of_type(JSON)
-        shutil.copyfileobj(io.TextIOWrapper(answer.body, encoding="utf-8"), run.terminal.out)
-        run.terminal.say()
-        return
-    taken = (value for value in run.desk.items("/requests")
-             if words.state in (None, value.get("state"))
-             and (not words.mine or value.get("submitter") == name))
-    if words.json:
-        run.print_json(list(taken))
-        return
-    rows = []
-    for value in taken:
-        one = shaped(Request, value)
-        votes = " ".join(f"{vote['reviewer']}:{vote['vote']}" for vote in one.votes) or "-"
-        rows.append((one.number, one.state, one.submitter, votes, one.file, one.title))
-    run.terminal.table(("NUMBER", "STATE", "SUBMITTER", "VOTES", "FILE", "TITLE"), rows, 5,
-                       "No such request.")
+    show(run, ALL, ("NUMBER", "STATE", "SUBMITTER", "VOTES", "FILE", "TITLE"), 5, request_row, 4)
 
 
 NEXT = {

@@ -1,12 +1,12 @@
 """The commands of lists, revocations and proposals, with their help."""
 from __future__ import annotations
 
-from ..described import WORDS
 from .arguments import (Command, component_word, count_word, generation_word, hash_word,
                         number_word, stamp_word, word)
 from .importing import import_file
+from .listing import list_words
 from .lists import list_certificate, list_digest, raise_level, revoke, unlist
-from .proposals import confirm, drop, proposal, proposals
+from .proposals import ALL, confirm, drop, proposal, proposals
 
 PROPOSAL = word("number", metavar="N", type=number_word, help="the proposal's number")
 EXPECT = word("--expect", metavar="HEX", type=hash_word,
@@ -83,9 +83,8 @@ LISTS: tuple[Command, ...] = (
              " what is in it. More than 10,000 entries are several proposals. Versions of Windows'"
              " boot programs and hashes of whole files are left out."),
             "deskctl import DBXUpdate.bin --dry-run"),
-    Command("proposals", REVOKING, "[--state S]", "list the proposals", proposals,
-            (word("--state", metavar="S", choices=tuple(WORDS["proposals"]),
-                  help=f"those of this state: {', '.join(WORDS['proposals'])}"),), "officers",
+    Command("proposals", REVOKING, "[--state S] [--mine] [--search TEXT]", "list the proposals",
+            proposals, list_words(ALL, "those that you made"), "officers",
             ("Without a terminal a proposal is a line of fields parted by tabs: number, state,"
              " digests, certificates, components, officer."), "deskctl proposals --state open"),
     Command(

@@ -4,7 +4,8 @@ from __future__ import annotations
 from ..described import LIMITS, WORDS
 from .arguments import Command, number_word, seconds_word, word
 from .facts import compare, facts
-from .requests import give_back, request, requests, review, submit, wait, withdraw
+from .listing import list_words
+from .requests import ALL, give_back, request, requests, review, submit, wait, withdraw
 from .verdicts import verdict
 
 STATES = tuple(WORDS["requests"])
@@ -19,13 +20,12 @@ REQUESTS: tuple[Command, ...] = (
              " and not the image: reviewers and the signer get the file from you, and compare that"
              " SHA-256."), "deskctl submit shimx64.efi --title 'shim 16.1-1 amd64'"),
     Command(
-        "requests", "Requests", "[--state S] [--mine]", "list the requests that you may see",
-        requests, (word("--state", metavar="S", choices=STATES,
-                        help="those of this state: " + ", ".join(STATES)),
-                   word("--mine", action="store_true",
-                        help="those that you submitted; --name says who you are")), "",
-        ("Submitters see their own, all others see all. Without a terminal a request is a line"
-         " of fields parted by tabs, nothing cut: number, state, submitter, votes, file, title."),
+        "requests", "Requests", "[--state S] [--mine] [--search TEXT]",
+        "list the requests that you may see", requests,
+        list_words(ALL, "those that you submitted; --name says who you are"), "",
+        ("Submitters see their own, all others see all. On a terminal what is longer than that goes"
+         " through $PAGER. Without one a request is a line of fields parted by tabs, nothing cut:"
+         " number, state, submitter, votes, file, title."),
         "deskctl requests --state approved"),
     Command("request", "Requests", "N", "show a request: its digests, votes and state", request,
             (NUMBER,), "",
