@@ -88,6 +88,26 @@ def test_a_doubt_goes_on_with_yes_and_what_is_right_is_named(office: Office, rea
         olga.does(f"revoke {words}", f"proposal {number}", err=texts)
 
 
+def test_the_ca_of_a_listed_signer_is_named_with_what_it_issued(office: Office) -> None:
+    """Before the proposal, and before the Confirm where the CA is listed, too; of one that isn't,
+    the second officer is told whose issued the listed ones."""
+    olga, otto = office["olga"], office["otto"]
+    office.file("ca.der", next(one["bytes"] for one in files("certificates") if one.get("ca")))
+    olga.does("list-certificate certificate.der --yes")
+    issued = ("Boot CA issued 1 listed certificate: Boot signer 2026. The desk still allows what it"
+              " signed: revoke it too.")
+    office.refuses("olga", "revoke --certificate ca.der", f"! {issued}", NO_TERMINAL,
+                   "C=DE, O=A distribution, CN=Boot CA, a CA's")
+    olga.does("revoke --certificate ca.der --certificate certificate.der", "proposal 1")
+    olga.does("revoke --certificate ca.der --yes", "proposal 2")
+    otto.does("proposal 2", "not listed, so its name is not known here; listed ones are issued by"
+              " C=DE, O=A distribution, CN=Boot CA")
+    olga.does("list-certificate ca.der --yes")
+    otto.does("proposal 2", f"! {issued}")
+    office.refuses("otto", "confirm 2", f"! {issued}", NO_TERMINAL)
+    otto.does("drop 2")
+
+
 STAMP = f"--stamp {TODAY}01"
 
 

@@ -9,9 +9,11 @@ import pytest
 from checks.support.cases import row_bytes
 from checks.support.wire import wire
 from kovelamiru.answers import Request
-from kovelamiru.certificates import certificate_in
+from kovelamiru.certificates import Certificate, certificate_in
 from kovelamiru.pkcs7 import signatures_of
-from kovelamiru.questions import QUESTIONS, carried_question, plain_question, yes_question
+from kovelamiru.questions import (
+    QUESTIONS, carried_question, issued_question, plain_question, unknown_words, yes_question
+)
 from kovelamiru.standing import Standing
 
 CASES: dict[str, Any] = wire("cases/questions")
@@ -46,14 +48,40 @@ def test_what_cant_be_taken_back_is_asked_about(name: str) -> None:
 
 
 LOOKS: dict[str, Any] = wire("cases/looks")
+
+
+def part(name: str) -> Certificate:
+    found = certificate_in(row_bytes(LOOKS["parts"], LOOKS["parts"][name]))
+    assert found
+    return found
+
+
+def standing_of(case: dict[str, Any]) -> Standing:
+    """What a case lists and revokes, by the names of parts."""
+    return Standing(
+        certificates={one.tbs: one for one in map(part, case["listed"])},
+        revoked_certificates={part(name).tbs for name in case.get("revoked", [])},
+    )
+
+
 SIGNED = {one["name"]: row_bytes(LOOKS["parts"], one["bytes"]) for one in LOOKS["signatures"]}
 
 
 @pytest.mark.parametrize("case", CASES["returns"], ids=[one["name"] for one in CASES["returns"]])
 def test_a_return_asks_where_no_listed_signer_is_named(case: dict[str, Any]) -> None:
-    bodies = [certificate_in(row_bytes(LOOKS["parts"], LOOKS["parts"][one]))
-              for one in case["listed"]]
-    now = Standing(certificates={one.tbs: one for one in bodies if one})
-    assert len(now.certificates) == len(case["listed"])
+    now = standing_of(case)
     said = carried_question(signatures_of(SIGNED[case["signature"]]), now)
     assert (said is not None) == (case["asks"] == ["carried"]), said
+
+
+@pytest.mark.parametrize("case", CASES["issued"], ids=[one["name"] for one in CASES["issued"]])
+def test_an_issuer_that_is_revoked_names_what_it_issued(case: dict[str, Any]) -> None:
+    now, revokes = standing_of(case), [part(name) for name in case["revokes"]]
+    names = {one.tbs for one in revokes}
+    said = [issued_question(one, now, names) for one in revokes]
+    assert [line for line in said if line] == ([case["asks"]] if "asks" in case else [])
+
+
+@pytest.mark.parametrize("case", CASES["unknown"], ids=[one["name"] for one in CASES["unknown"]])
+def test_of_an_unknown_certificate_the_listed_ones_issuers_are_said(case: dict[str, Any]) -> None:
+    assert unknown_words(standing_of(case)) == case["says"]

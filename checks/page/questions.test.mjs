@@ -5,12 +5,15 @@ import { test } from 'node:test';
 
 import { json, rowBytes } from './cases.mjs';
 import {
-    carriedWords, plainQuestion, returnQuestion, yesQuestion,
+    carriedWords, issuedWords, plainQuestion, returnQuestion, unknownWords, yesQuestion,
 } from '../../page/desk/questions.js';
+import { givenOf, namesIn } from '../../page/formats/certificates.js';
+import { tbsOf } from '../../page/formats/der.js';
+import { sha256 } from '../../page/formats/digests.js';
 import { signaturesOf } from '../../page/formats/pkcs7.js';
 import { wire } from '../../page/formats/wire.js';
 
-const { level, revoked, yes, returns } = json('cases/questions');
+const { level, revoked, yes, returns, issued, unknown } = json('cases/questions');
 const now = {
     level: { names: new Map(Object.entries(level)) },
     revoked: {
@@ -48,5 +51,36 @@ for (const { name, signature, listed, asks } of returns) {
         assert.equal(words !== '', asks.length > 0, words);
         assert.doesNotMatch(words, /[{}]/);
         if (words) assert.deepEqual(returnQuestion(7, words).lines, [words]);
+    });
+}
+
+async function partOf(name) {
+    const bytes = rowBytes(looks.parts[name], looks.parts);
+    const tbs = tbsOf(bytes);
+    return { ...givenOf(await sha256(tbs), bytes), ...namesIn(tbs) };
+}
+
+// What a case lists and revokes, by the names of parts.
+async function standingOf({ listed, revoked: those = [] }) {
+    const all = await Promise.all(listed.map(partOf));
+    const barred = await Promise.all(those.map(partOf));
+    return {
+        listed: { certificates: new Map(all.map((one) => [one.tbs, one])) },
+        revoked: { certificates: new Set(barred.map(({ tbs }) => tbs)) },
+    };
+}
+
+for (const { name, revokes, asks, ...desk } of issued) {
+    test(`${name}: it is told what it issued`, async () => {
+        const [at, ones] = [await standingOf(desk), await Promise.all(revokes.map(partOf))];
+        const named = new Set(ones.map(({ tbs }) => tbs));
+        const said = ones.map((one) => issuedWords(one, at, named)).filter((line) => line !== '');
+        assert.deepEqual(said, asks ? [asks] : []);
+    });
+}
+
+for (const { name, says, ...desk } of unknown) {
+    test(`${name}: of an unknown certificate the listed ones' issuers are said`, async () => {
+        assert.equal(unknownWords(await standingOf(desk)), says);
     });
 }

@@ -3,6 +3,7 @@
 // meant.
 
 import { generationDoubts, stampDoubts } from './generations.js';
+import { issuedWords } from './questions.js';
 import { higher } from '../formats/sbat.js';
 
 /**
@@ -16,8 +17,10 @@ import { higher } from '../formats/sbat.js';
  *   names: Set<string> }} Known
  * the lists; requests by the SHA-256 of a whole file, by a digest and by a certificate that they
  * carry; listed certificates by their fingerprints; the names of all components
+ * @typedef {import('../formats/certificates.js').Given} Given
  * @typedef {{ digests: Iterable<string>, certificates: Iterable<string>,
- *   components: Iterable<[string, number]>, stamp: number | null }} Named
+ *   components: Iterable<[string, number]>, stamp: number | null,
+ *   given?: Map<string, Given> }} Named
  * what a proposal or an import names
  */
 
@@ -116,6 +119,22 @@ export function certificateDoubts(digest, { now, files, images, fingerprints }) 
 }
 
 /**
+ * What certificates that are to be revoked issued: those that are listed, or `given`.
+ * @param {Iterable<string>} certificates
+ * @param {Known} known
+ * @param {Map<string, Given>} [given]
+ * @returns {Doubt[]}
+ */
+export function issuedDoubts(certificates, { now }, given = new Map()) {
+    const named = new Set(certificates);
+    return [...named].sort().flatMap((tbs) => {
+        const one = given.get(tbs) ?? now.listed.certificates.get(tbs);
+        const text = one ? issuedWords(one, now, named) : '';
+        return text ? [{ text }] : [];
+    });
+}
+
+/**
  * openssl prints a certificate's fingerprint with colons.
  * @param {string} typed a digest as it was typed
  * @param {'image' | 'certificate'} of what it was typed as the digest of
@@ -145,6 +164,7 @@ export function itemDoubts(named, known, present = known.now.level.stamp) {
         ...[...named.digests].flatMap((one) => digestDoubts(one, known)),
         ...[...named.certificates].flatMap((one) => certificateDoubts(one, known)),
     ].filter(({ idle }) => idle);
+    doubts.push(...issuedDoubts(named.certificates, known, named.given));
     doubts.push(...raised.flatMap(([name, n]) => generationDoubts(name, n, known)));
     if (!named.stamp || raised.length === 0) return doubts;
     return [...doubts, ...stampDoubts(named.stamp, present)];

@@ -1,12 +1,12 @@
-// What is asked before a vote, a withdrawal, a return or a drop, in the words of
+// What is asked before a vote, a withdrawal, a return, a drop or a proposal, in the words of
 // page/wire/questions.json.
 
-import { barredBy } from './standing.js';
+import { barredBy, called } from './standing.js';
 import { certificateOf, isCertificate } from '../formats/certificates.js';
 import { hex } from '../formats/digests.js';
 import { signerWords } from '../formats/pkcs7.js';
 import { wire } from '../formats/wire.js';
-import { filled, ruleWords } from '../formats/words.js';
+import { counted, filled, ruleWords, someOf } from '../formats/words.js';
 
 /** @typedef {{ title: string, lines: string[], button: string }} Question */
 
@@ -66,3 +66,36 @@ export function carriedWords(signatures, bodies) {
 
 /** @param {number} number of a request @param {string} words of `carriedWords` */
 export const returnQuestion = (number, words) => question('return', number, [words]);
+
+/**
+ * What is said before a certificate is revoked: the listed ones that it issued, and that neither
+ * are revoked nor among the `named`.
+ * @param {{ tbs: string, subject: string, of: string }} one
+ * @param {Pick<import('./standing.js').Standing, 'listed' | 'revoked'>} now
+ * @param {Set<string>} named
+ * @returns {string} '' where nothing is said
+ */
+export function issuedWords(one, { listed, revoked }, named) {
+    const left = [...listed.certificates.values()].filter(({ tbs, of, by }) => (
+        by === one.of && of !== by && !named.has(tbs) && !revoked.certificates.has(tbs)
+    ));
+    if (left.length === 0) return '';
+    const [they, them] = left.length === 1 ? ['it', 'it'] : ['they', 'them'];
+    const count = counted(left.length, 'listed certificate');
+    const parts = { subject: called(one), count, names: someOf(left.map(called)), they, them };
+    return filled(wire.questions.propose.issued, parts);
+}
+
+/**
+ * What is said of a certificate that is to be revoked and isn't at hand: who issued those that are
+ * listed.
+ * @param {Pick<import('./standing.js').Standing, 'listed' | 'revoked'>} now
+ * @returns {string} '' where nobody else did
+ */
+export function unknownWords({ listed, revoked }) {
+    const others = [...listed.certificates.values()].filter(({ tbs, of, by }) => (
+        of !== by && !revoked.certificates.has(tbs)
+    ));
+    const names = someOf([...new Set(others.map(({ issuer }) => issuer))], '; ');
+    return names ? filled(wire.questions.propose.unknown, { names }) : '';
+}

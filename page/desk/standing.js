@@ -1,15 +1,17 @@
 // What stands now: the lists and the level, read from the desk's own exports and parsed here.
 
 import { get } from './api.js';
-import { subjectIn, subjectOf } from '../formats/certificates.js';
+import { namesIn, subjectOf } from '../formats/certificates.js';
 import { tbsOf } from '../formats/der.js';
 import { sha256 } from '../formats/digests.js';
 import { levelOf } from '../formats/sbat.js';
 import { digestIn, entriesOf } from '../formats/siglists.js';
 
 /**
- * @typedef {{ tbs: string, subject: string, of: string, fingerprint: string }} Listed
- * `of` is its subject's name in DER, in hexadecimal digits
+ * @typedef {{ tbs: string, subject: string, of: string, by: string, issuer: string,
+ *   fingerprint: string }} Listed
+ * `subject` is its common name, `issuer` whose its issuer is, `of` and `by` are the two names in
+ * DER, in hexadecimal digits
  * @typedef {{ digests: Set<string>, certificates: Map<string, Listed> }} Allowed
  * @typedef {{ digests: Set<string>, certificates: Set<string> }} Revoked
  * @typedef {{ listed: Allowed, revoked: Revoked, level: import('../formats/sbat.js').Level,
@@ -67,8 +69,8 @@ async function listedOf(db) {
         const tbs = entry.kind === 'x509' ? tbsOf(entry.body) : null;
         if (!tbs) continue;
         const [name, fingerprint] = [await sha256(tbs), await sha256(entry.body)];
-        const [subject, of] = [subjectOf(tbs), subjectIn(tbs)];
-        certificates.set(name, { tbs: name, subject, of, fingerprint });
+        const subject = subjectOf(tbs);
+        certificates.set(name, { tbs: name, subject, ...namesIn(tbs), fingerprint });
     }
     return { digests, certificates };
 }
@@ -98,3 +100,7 @@ export function barredBy({ revoked, level: { names } }, { digest, signing, carri
     const [component, generation] = low;
     return { verdict: 'sbat', component, generation, level: names.get(component) };
 }
+
+// A certificate's name in a sentence: the common name, or the first 8 digits of its SHA-256.
+/** @param {{ tbs: string, subject: string }} one */
+export const called = ({ tbs, subject }) => subject || tbs.slice(0, 8);

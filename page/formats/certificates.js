@@ -103,14 +103,15 @@ export function nameOf(name) {
 /** @param {Uint8Array} tbs */
 export function subjectOf(tbs) {
     const [, , , , subject] = partsOf(element(tbs));
-    return attributes(subject).find(([type]) => type === 'CN')?.[1] ?? '';
+    return attributes(subject).find(([type]) => type === 'CN')?.[1].trim() ?? '';
 }
 
-// The name of a certificate's subject in DER, in hexadecimal digits.
+// The two names of a certificate in DER, in hexadecimal digits, and its issuer's as it reads.
 /** @param {Uint8Array} tbs */
-export function subjectIn(tbs) {
-    const [, , , , subject] = partsOf(element(tbs));
-    return subject ? hex(subject.whole) : '';
+export function namesIn(tbs) {
+    const [, , issuer, , subject] = partsOf(element(tbs));
+    if (!subject) return { of: '', by: '', issuer: '' };
+    return { of: hex(subject.whole), by: hex(issuer.whole), issuer: nameOf(issuer) };
 }
 
 /** @param {Element} key a SubjectPublicKeyInfo */
@@ -165,4 +166,20 @@ export function certificateOf(bytes) {
         by: hex(issuer.whole),
         serial: hex(serial.content),
     };
+}
+
+/**
+ * A certificate that is to be revoked: its name in dbx, its common name, its subject's name in DER,
+ * whose it is, and whether it says that it is a CA's.
+ * @typedef {{ tbs: string, subject: string, of: string, whose: string, authority: boolean }} Given
+ */
+
+/**
+ * @param {string} tbs the SHA-256 of its TBSCertificate
+ * @param {Uint8Array} bytes for which `isCertificate` holds
+ * @returns {Given}
+ */
+export function givenOf(tbs, bytes) {
+    const { tbs: signed, of, subject: whose, authority } = certificateOf(bytes);
+    return { tbs, subject: subjectOf(signed), of, whose, authority };
 }

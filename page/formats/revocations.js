@@ -2,6 +2,7 @@
 // stands before them; the desk's CSV; a level's text; Microsoft's lists. The desk reads what is
 // sent again, and its reading is what counts.
 
+import { givenOf, isCertificate } from './certificates.js';
 import { recordsOf } from './csv.js';
 import { tbsOf } from './der.js';
 import { sha256 } from './digests.js';
@@ -14,10 +15,12 @@ import { unwrapped } from './update.js';
  * @typedef {{ kind: string, path: string, body: Uint8Array, digests: Set<string>,
  *   certificates: Set<string>, components: Map<string, number>, stamp: number | null,
  *   count: number, aside: Map<string, number>, skipped: Map<string, number>, timed: number,
- *   owners: Set<string>, notes: string[], refused: string, fault: string }} Revocations
+ *   owners: Set<string>, given: Map<string, import('./certificates.js').Given>, notes: string[],
+ *   refused: string, fault: string }} Revocations
  * kind: `lists`, `csv`, `level` or `microsoft`; `path` and `body` are what is sent; `stamp` is a
  * level's. `count` is of all entries that are sent, `skipped` of those that the desk skips, by
- * their kind, `aside` of those that are left out here, by why. `timed` have a time of revocation.
+ * their kind, `aside` of those that are left out here, by why. `timed` have a time of revocation,
+ * `given` are certificates that stand in it whole.
  * `notes` say what stood before lists, and what else there is to say. `refused` says in a word why
  * it can't be imported, `fault` in a sentence; both are empty if it can.
  */
@@ -82,6 +85,7 @@ function empty(kind, path, body) {
         skipped: new Map(),
         timed: 0,
         owners: new Set(),
+        given: new Map(),
         notes: [],
         refused: '',
         fault: '',
@@ -103,9 +107,7 @@ function whole(found) {
 
 // A file as text, a byte a character.
 /** @param {Uint8Array} bytes */
-function textOf(bytes) {
-    return new TextDecoder('latin1').decode(bytes);
-}
+const textOf = (bytes) => new TextDecoder('latin1').decode(bytes);
 
 // Whether it is text in UTF-16, by its mark or by every other byte of its first eight characters.
 /** @param {Uint8Array} bytes */
@@ -145,10 +147,12 @@ async function take(entry, found) {
     found.owners.add(entry.owner);
     if (hasTime(entry)) found.timed += 1;
     const tbs = entry.kind === 'x509' ? tbsOf(entry.body) : null;
+    const name = tbs ? await sha256(tbs) : '';
+    if (name && isCertificate(entry.body)) found.given.set(name, givenOf(name, entry.body));
     const skipped = entry.kind === 'x509' ? 'x509 that isn’t one certificate' : entry.kind;
     if (entry.kind === 'sha256') found.digests.add(digestIn(entry));
     else if (entry.kind === 'x509_sha256') found.certificates.add(digestIn(entry));
-    else if (tbs) found.certificates.add(await sha256(tbs));
+    else if (tbs) found.certificates.add(name);
     else found.skipped.set(skipped, (found.skipped.get(skipped) ?? 0) + 1);
 }
 

@@ -22,6 +22,15 @@ export function joined(parts) {
     return `${parts.slice(0, -1).join(', ')} and ${parts[parts.length - 1]}`;
 }
 
+/**
+ * The first names of a list, and how many more there are.
+ * @param {string[]} names @param {string} [joint] @param {number} [most]
+ */
+export function someOf(names, joint = ', ', most = 5) {
+    const more = names.length - most;
+    return names.slice(0, most).join(joint) + (more > 0 ? ` and ${grouped(more)} more` : '');
+}
+
 /** @param {number} length */
 export function size(length) {
     if (length < 10240) return counted(length, 'byte');

@@ -4,7 +4,7 @@ import { box, facts, field, fill, h, line, status, strong } from './dom.js';
 import { fileField } from './files.js';
 import { digest } from './marks.js';
 import { withName } from '../desk/signer.js';
-import { certificateOf } from '../formats/certificates.js';
+import { certificateOf, givenOf } from '../formats/certificates.js';
 import { certificateIn } from '../formats/pem.js';
 import { wire } from '../formats/wire.js';
 
@@ -17,14 +17,18 @@ const NO_SUM = 'isn’t worked out: browsers do it over https alone';
  * @typedef {import('../desk/signer.js').Certificate & { der: Uint8Array }} Certificate
  */
 
-// Fields for one certificate: `typed` gives what stands there as its name in dbx.
+// Fields for one certificate: `typed` gives what stands there as its name in dbx, `given` those
+// whose files were chosen.
 export function certificateField() {
     const input = line({ class: 'mono' });
+    /** @type {Map<string, import('../formats/certificates.js').Given>} */
+    const given = new Map();
     const { place, said } = certificateFile('Its file', (chosen) => {
         input.value = chosen?.name ?? '';
+        if (chosen) given.set(chosen.name, givenOf(chosen.name, chosen.der));
     });
     const name = field('Or the SHA-256 of its TBSCertificate', input, HINT);
-    return { parts: [place, said, name], typed: () => input.value };
+    return { parts: [place, said, name], typed: () => input.value, given };
 }
 
 /** @param {Certificate} certificate */

@@ -3,6 +3,7 @@
 import { h, p, strong } from './dom.js';
 import { digest, requestLink } from './marks.js';
 import { paged } from './table.js';
+import { unknownWords } from '../desk/questions.js';
 import { counted, grouped } from '../formats/words.js';
 
 /** @typedef {import('./dom.js').Child} Child */
@@ -78,7 +79,8 @@ function certificateRow(one, known) {
     if (!known) return [...row, ''];
     const carried = known.carriers.get(one)?.length ?? 0;
     const listed = known.now.listed.certificates.get(one);
-    const name = listed ? `listed${listed.subject ? `: ${listed.subject}` : ''}` : 'not listed';
+    const none = unknownWords(known.now) || 'not listed';
+    const name = listed ? `listed${listed.subject ? `: ${listed.subject}` : ''}` : none;
     if (carried === 0) return [...row, name];
     const carry = carried === 1 ? 'carries' : 'carry';
     return [...row, `${name}; ${counted(carried, 'submitted image')} ${carry} it`];

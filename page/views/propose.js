@@ -7,7 +7,7 @@ import { field, fill, h, heading, line, quiet, quietStatus } from './dom.js';
 import { imagesForm } from './imagesform.js';
 import { importForm } from './importing.js';
 import { STAMP_FAULT, isComponent, isGeneration, isStamp, numberLine } from './numbers.js';
-import { certificateDoubts, colonDoubts } from '../desk/doubts.js';
+import { certificateDoubts, colonDoubts, issuedDoubts } from '../desk/doubts.js';
 import { generationDoubts, stampDoubts, stampOf } from '../desk/generations.js';
 import { jsonCommand } from '../desk/journal.js';
 import { standing } from '../desk/standing.js';
@@ -21,7 +21,7 @@ const NO_COMPONENT = 'A component’s name has no space and no comma, as shim or
 const NO_GENERATION = 'A generation is a number from 1 to 4,294,967,295.';
 
 function certificateForm() {
-    const { parts, typed } = certificateField();
+    const { parts, typed, given } = certificateField();
     return form('Revoke a certificate', parts, () => {
         const text = typed();
         const digest = digestTyped(text);
@@ -29,7 +29,11 @@ function certificateForm() {
         const what = 'Propose to revoke a certificate';
         const colons = colonDoubts(text, 'certificate');
         return {
-            doubts: (all) => [...colons, ...certificateDoubts(digest, all)],
+            doubts: (all) => [
+                ...colons,
+                ...certificateDoubts(digest, all),
+                ...issuedDoubts([digest], all, given),
+            ],
             command: () => jsonCommand(what, '/dbx/certificates', { digest }),
         };
     });

@@ -25,7 +25,8 @@ ATTRIBUTES = {"550403": "CN", "55040a": "O", "55040b": "OU", "550406": "C", "550
 class Certificate:
     """A certificate: the SHA-256 of its TBSCertificate and of the whole of it, whose it is, who
     issued it, its key in words, and whether it says that it is a CA's. `of` and `by` are the two
-    names in DER, `serial` its number: what signatures and other certificates name it by."""
+    names in DER, `serial` its number: what signatures and other certificates name it by; `common`
+    is its subject's common name, if there is one."""
 
     data: bytes
     tbs: str
@@ -37,6 +38,12 @@ class Certificate:
     of: bytes
     by: bytes
     serial: bytes
+    common: str
+
+    @property
+    def called(self) -> str:
+        """Its name in a sentence: the common name, or the first 8 digits of its SHA-256."""
+        return self.common or self.tbs[:8]
 
     @property
     def rsa(self) -> bool:
@@ -67,22 +74,29 @@ def is_tbs(tbs: Element) -> bool:
     return is_algorithm(algorithm) and in_time and kinds == [SEQUENCE, BIT_STRING]
 
 
-def named(name: Element) -> str:
-    """A name's attributes in its order."""
+def attributes(name: Element) -> list[tuple[str, str]]:
+    """A name's attributes in its order, each with its type."""
     found = []
     for pair in (pair for part in elements(name.content) for pair in elements(part.content)):
         kind, value = elements(pair.content)[:2]
         coding = {0x1E: "utf-16-be", 0x14: "latin-1"}.get(value.tag, "utf-8")
         text = value.content.decode(coding, "replace")
-        found.append(f"{ATTRIBUTES.get(kind.content.hex(), '?')}={text}")
-    return printable(", ".join(found)) or "(empty)"
+        found.append((ATTRIBUTES.get(kind.content.hex(), "?"), printable(text)))
+    return found
 
 
 def readable(name: Element) -> str:
     try:
-        return named(name)
+        return ", ".join(f"{kind}={text}" for kind, text in attributes(name)) or "(empty)"
     except ValueError:
         return "(not readable)"
+
+
+def common_name(name: Element) -> str:
+    try:
+        return next((text.strip() for kind, text in attributes(name) if kind == "CN"), "")
+    except ValueError:
+        return ""
 
 
 def key_words(key: Element) -> str:
@@ -135,7 +149,7 @@ def certificate_read(data: bytes) -> Certificate:
                        hashlib.sha256(tbs.whole).hexdigest(),
                        hashlib.sha256(data).hexdigest(), readable(parts[4]), readable(parts[2]),
                        key_of(parts[5]), is_authority(parts), parts[4].whole, parts[2].whole,
-                       parts[0].content)
+                       parts[0].content, common_name(parts[4]))
 
 
 def certificate_in(data: bytes) -> Optional[Certificate]:

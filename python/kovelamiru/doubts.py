@@ -6,15 +6,16 @@ import datetime
 import hashlib
 from collections import Counter
 from dataclasses import dataclass, field
-from typing import Any, Optional, Sequence
+from typing import Any, Mapping, Optional, Sequence
 
 from .answers import Request, shaped, titled
-from .certificates import certificate_in
+from .certificates import Certificate, certificate_in
 from .der import BadDer, tbs_digest
 from .described import LIMITS
 from .desk import Desk
 from .journal import now
-from .standing import lists_of
+from .questions import issued_question, unknown_words
+from .standing import Standing, lists_of
 from .words import printable
 
 
@@ -32,6 +33,7 @@ class Known:
     names: set[str] = field(default_factory=set)
     about: dict[str, str] = field(default_factory=dict)
     told: Counter[str] = field(default_factory=Counter)
+    now: Standing = field(default_factory=Standing)
 
     def tell(self, digest: str, text: str) -> None:
         """Adds what is known of a digest or a certificate; of many facts the first three."""
@@ -81,7 +83,18 @@ class Known:
         if tbs in self.digests:
             self.doubts.append(f"{tbs} is the listed certificate {subject}, and no image's digest.")
         if tbs in self.certificates:
-            self.about[tbs] = "; ".join(filter(None, [f"listed: {subject}", self.about.get(tbs)]))
+            words = f"listed: {certificate_words(certificate) if certificate else subject}"
+            self.about[tbs] = "; ".join(filter(None, [words, self.about.get(tbs)]))
+
+    def issuers(self, given: Mapping[str, Certificate]) -> None:
+        """The certificates as issuers of listed ones: those that are listed, or `given`."""
+        for tbs in sorted(self.certificates):
+            one = given.get(tbs) or self.now.certificates.get(tbs)
+            doubt = issued_question(one, self.now, self.certificates) if one else None
+            self.doubts += [doubt] if doubt else []
+            if tbs not in self.now.certificates:
+                words = certificate_words(one) if one else unknown_words(self.now)
+                self.about[tbs] = "; ".join(filter(None, [words, self.about.get(tbs)]))
 
     def entry(self, name: str, body: bytes, where: str) -> None:
         """An entry of the desk's own lists."""
@@ -97,9 +110,15 @@ class Known:
             self.doubts.append(f"{body.hex()} is an image's digest in {where}, and no certificate.")
 
 
+def certificate_words(one: Certificate) -> str:
+    """Whose it is, and whether it says that it is a CA's."""
+    return one.subject + (", a CA's" if one.authority else "")
+
+
 def known(desk: Desk, digests: Sequence[str], certificates: Sequence[str],
-          components: Sequence[Sequence[Any]] = ()) -> Known:
-    """Looks for them among the desk's requests and lists."""
+          components: Sequence[Sequence[Any]] = (),
+          given: Optional[Mapping[str, Certificate]] = None) -> Known:
+    """Looks for them among the desk's requests and lists; of some certificates there is all."""
     found = Known(set(digests), set(certificates))
     if found.digests or found.certificates or components:
         for value in desk.listed("/requests"):
@@ -108,6 +127,8 @@ def known(desk: Desk, digests: Sequence[str], certificates: Sequence[str],
         for name in ("db", "dbx"):
             for kind, entry in lists_of(desk, name):
                 found.entry(kind, entry[16:], name)
+                found.now.take(name, kind, entry)
+        found.issuers(given or {})
     found.doubts = list(dict.fromkeys(found.doubts))
     found.halves = list(dict.fromkeys(found.halves))
     return found

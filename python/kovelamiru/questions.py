@@ -1,13 +1,15 @@
-"""What is asked before a vote, a withdrawal, a return or a drop, in the words of
+"""What is asked before a vote, a withdrawal, a return, a drop or a proposal, in the words of
 page/wire/questions.json."""
 from __future__ import annotations
 
-from typing import Optional, Sequence
+from typing import Collection, Optional, Sequence
 
 from .answers import Request
+from .certificates import Certificate
 from .described import WORDS, described
 from .pkcs7 import Signature
 from .standing import Standing, barred_by
+from .words import counted, some_of
 
 QUESTIONS: dict[str, dict[str, str]] = described("questions")
 
@@ -46,3 +48,25 @@ def carried_question(signatures: Sequence[Signature], now: Standing) -> Optional
         return None
     words = "; ".join(signer.words for signer in signers) or "by nobody"
     return QUESTIONS["return"]["carried"].format(subject=carried[0].subject, signers=words)
+
+
+def issued_question(one: Certificate, now: Standing, named: Collection[str]) -> Optional[str]:
+    """Before a certificate is revoked: the listed ones that it issued, and that neither are revoked
+    nor among the `named`."""
+    left = [each for each in now.issued_by(one)
+            if each.tbs not in named and each.tbs not in now.revoked_certificates]
+    if not left:
+        return None
+    they, them = ("it", "it") if len(left) == 1 else ("they", "them")
+    return QUESTIONS["propose"]["issued"].format(
+        subject=one.called, count=counted(len(left), "listed certificate"),
+        names=some_of([each.called for each in left]), they=they, them=them)
+
+
+def unknown_words(now: Standing) -> str:
+    """What is said of a certificate that is to be revoked and isn't at hand: who issued those that
+    are listed. Nothing where nobody else did."""
+    issuers = dict.fromkeys(one.issuer for one in now.certificates.values()
+                            if one and one.of != one.by and one.tbs not in now.revoked_certificates)
+    names = some_of(list(issuers), "; ")
+    return QUESTIONS["propose"]["unknown"].format(names=names) if issuers else ""

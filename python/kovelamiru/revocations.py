@@ -6,6 +6,7 @@ from collections import Counter
 from dataclasses import dataclass, field
 from typing import Optional
 
+from .certificates import Certificate, certificate_in
 from .csv import records
 from .der import BadDer, tbs_digest
 from .faults import Unreadable, wrong
@@ -32,6 +33,8 @@ class Revocations:
     aside: Counter[str] = field(default_factory=Counter)
     owners: Counter[str] = field(default_factory=Counter)
     lists: list[SignatureList] = field(default_factory=list)
+    # The certificates that stand in it whole, by the SHA-256 of their TBSCertificates.
+    given: dict[str, Certificate] = field(default_factory=dict)
     timed: int = 0
     stamp: Optional[int] = None
     notes: list[str] = field(default_factory=list)
@@ -79,6 +82,9 @@ def lists_named(data: bytes, kind: str) -> Revocations:
 def whole_certificate(body: bytes, found: Revocations) -> None:
     try:
         found.certificates.append(tbs_digest(body))
+        one = certificate_in(body)
+        if one:
+            found.given[one.tbs] = one
     except BadDer:
         found.passed["x509 that isn't one certificate"] += 1
 

@@ -33,6 +33,21 @@ class Standing:
         """The listed certificates of this name, which is in DER."""
         return [one for one in self.certificates.values() if one and one.of == name]
 
+    def issued_by(self, one: Certificate) -> list[Certificate]:
+        """The listed certificates that it issued, by its name; none is self-issued."""
+        return [each for each in self.certificates.values()
+                if each and each.by == one.of and each.of != each.by]
+
+    def take(self, where: str, kind: str, entry: bytes) -> None:
+        """An entry of db or of dbx."""
+        if where == "dbx":
+            named = self.revoked_digests if kind == "sha256" else self.revoked_certificates
+            named.add(entry[16:48].hex())
+        elif kind == "x509":
+            self.take_listed(entry[16:])
+        elif kind == "sha256":
+            self.digests.add(entry[16:].hex())
+
     def take_listed(self, body: bytes) -> None:
         """A listed certificate. The desk takes more than what is one."""
         try:
@@ -58,18 +73,14 @@ def revoked_of(desk: Desk) -> Standing:
     """What bars images today, without what is listed."""
     found = Standing(level=level_of(desk)[1])
     for kind, entry in lists_of(desk, "dbx"):
-        named = found.revoked_digests if kind == "sha256" else found.revoked_certificates
-        named.add(entry[16:48].hex())
+        found.take("dbx", kind, entry)
     return found
 
 
 def standing_of(desk: Desk) -> Standing:
     found = revoked_of(desk)
     for kind, entry in lists_of(desk, "db"):
-        if kind == "x509":
-            found.take_listed(entry[16:])
-        elif kind == "sha256":
-            found.digests.add(entry[16:].hex())
+        found.take("db", kind, entry)
     return found
 
 

@@ -3,7 +3,7 @@ from __future__ import annotations
 
 import json
 import re
-from typing import Any, Mapping
+from typing import Any, Mapping, Sequence
 
 HEX = re.compile(r"[0-9A-Fa-f]{64}\Z")
 
@@ -29,6 +29,12 @@ def brief(cell: str) -> str:
 
 def counted(number: int, one: str, many: str = "") -> str:
     return f"{number:,} {one if number == 1 else many or one + 's'}"
+
+
+def some_of(names: Sequence[str], joint: str = ", ", most: int = 5) -> str:
+    """The first names of a list, and how many more there are."""
+    more = len(names) - most
+    return joint.join(names[:most]) + (f" and {more:,} more" if more > 0 else "")
 
 
 KINDS = {"digests": "digest", "certificates": "certificate", "components": "component"}

@@ -131,7 +131,7 @@ def previewed(path: str, found: Revocations, calls: Sequence[Call],
 def import_doubts(run: Run, found: Revocations, stamp: Optional[int], force: Force) -> list[str]:
     """What looks like a slip of the hand in a file of revocations."""
     higher = [pair for pair in found.components if pair[1] > force.level.get(pair[0], 0)]
-    seen = known(run.desk, found.digests, found.certificates, higher)
+    seen = known(run.desk, found.digests, found.certificates, higher, found.given)
     doubts = seen.doubts + level_doubts(higher, stamp, force.level, seen.names)
     if found.entries() and not any(force.new(found).values()):
         doubts.append("Nothing in it is new: a Confirm would change nothing.")

@@ -7,6 +7,7 @@ from dataclasses import dataclass
 from typing import Callable, Optional, Sequence
 
 from ..answers import said_number
+from ..certificates import Certificate
 from ..csv import csv_of
 from ..doubts import known, level_doubts
 from ..faults import Causes, Refused, wrong
@@ -38,11 +39,16 @@ def hex_of(text: str, what: str) -> str:
     wrong(f"{printable(text)} is no SHA-256: {what} is 64 hexadecimal digits")
 
 
-def certificate_named(run: Run, text: str) -> str:
-    """The TBSCertificate's SHA-256 by a certificate's file, or as it is given."""
+Given = dict[str, Certificate]
+
+
+def certificate_named(run: Run, text: str, given: Optional[Given] = None) -> str:
+    """The TBSCertificate's SHA-256 by a certificate's file, which is then `given`, or as it is."""
     if HEX.match(text) or not os.path.exists(text):
         return hex_of(text, "a certificate's file, or the SHA-256 of its TBSCertificate")
     found = certificate_of(text)
+    if given is not None:
+        given[found.tbs] = found
     run.terminal.note(f"{printable(text)}: {found.subject}\n"
                       f"  certificate {found.tbs} (the SHA-256 of its TBSCertificate)")
     return found.tbs
@@ -150,11 +156,13 @@ def csv_calls(digests: Sequence[str], certificates: Sequence[str],
 
 @dataclass
 class Named:
-    """What a command revokes, each once, and what is known here of the digests."""
+    """What a command revokes, each once, what is known here of the digests, and the certificates
+    whose files were given."""
 
     digests: list[str]
     certificates: list[str]
     about: dict[str, str]
+    given: Given
 
 
 def revoked_named(run: Run) -> Named:
@@ -177,8 +185,9 @@ def revoked_named(run: Run) -> Named:
                 f"! {name} has a gap of {facts.gap} bytes, where osslsigncode and fwupd have"
                 " another digest than firmware.")
     digests += [hex_of(text, "an image's digest") for text in run.words.digest]
-    certificates = [certificate_named(run, text) for text in run.words.certificate]
-    return Named(list(dict.fromkeys(digests)), list(dict.fromkeys(certificates)), about)
+    given: Given = {}
+    certificates = [certificate_named(run, text, given) for text in run.words.certificate]
+    return Named(list(dict.fromkeys(digests)), list(dict.fromkeys(certificates)), about, given)
 
 
 def revoke(run: Run) -> None:
@@ -198,7 +207,7 @@ def revoke(run: Run) -> None:
     def asks(taken: bool) -> None:
         if taken:
             return
-        found = known(run.desk, digests, certificates)
+        found = known(run.desk, digests, certificates, given=named.given)
         for digest in digests + certificates:
             kind = "digest" if digest in digests else "certificate"
             words = "; ".join(filter(None, [named.about.get(digest), found.about.get(digest)]))
