@@ -8,8 +8,8 @@ import { changed } from './desk/standing.js';
 import { look } from './desk/waiting.js';
 import { readWire } from './formats/wire.js';
 import { isNumber } from './formats/words.js';
-import { lostBox, refusalBox } from './views/act.js';
-import { box, fill, h, p, quiet, strong, sure } from './views/dom.js';
+import { lostBox, refusalBox, underWay } from './views/act.js';
+import { box, faultAt, faulty, fill, h, p, quiet, strong, sure } from './views/dom.js';
 import { historyView } from './views/history.js';
 import { inboxView } from './views/inbox.js';
 import { listsView } from './views/lists.js';
@@ -78,11 +78,13 @@ function show() {
 /** How many commands were under way. */
 let under = 0;
 
-// The commands whose answer is missing, on whatever view the person is.
+// The commands whose answer is missing, and uploads, on whatever view the person is.
 function waiting() {
-    const lost = [...unanswered].filter((command) => command.state === 'lost');
-    const elsewhere = lost.filter((command) => !part('main').contains(command.box));
-    fill(part('waiting'), elsewhere.map(lostBox));
+    const all = [...unanswered];
+    const isHere = (/** @type {HTMLElement | null} */ at) => part('main').contains(at);
+    const lost = all.filter((one) => one.state === 'lost' && !isHere(one.box));
+    const sent = all.filter(({ state, bar }) => state !== 'lost' && bar && !isHere(bar));
+    fill(part('waiting'), lost.map(lostBox), sent.map(underWay));
     if (unanswered.size < under && me.known) look(true);
     under = unanswered.size;
 }
@@ -95,11 +97,8 @@ async function enter(/** @type {Event} */ event) {
     const field = part('token');
     const token = field.value.trim();
     const said = part('sign-in-answer');
-    const fault = tokenFault(token);
-    if (fault) {
-        fill(said, h('p', { class: 'fault' }, fault));
-        return field.focus();
-    }
+    fill(said);
+    if (faulty([field, tokenFault(token)])) return undefined;
     part('enter').disabled = true;
     fill(said, quiet('Asking the desk…'));
     const missing = await readWire();
@@ -109,11 +108,22 @@ async function enter(/** @type {Event} */ event) {
         fill(said, missing ? box('care', p(strong(NOT_WHOLE), AGAIN)) : refusalBox(answer));
         return field.focus();
     }
-    field.value = '';
-    fill(said);
+    return goIn();
+}
+
+// The person is known: the view is shown that the address names.
+function goIn() {
+    part('token').value = '';
+    fill(part('sign-in-answer'));
     show();
     beginWaiting();
-    return part('main').querySelector('h1')?.focus();
+    part('main').querySelector('h1')?.focus();
+}
+
+// Signs in without a press where the site knows people by their certificates: it answers without a
+// token. Not behind a sign-out.
+async function goInByCertificate() {
+    if (await signIn('') === null) goIn();
 }
 
 const KEY_LOST = 'A command still waits for its answer. '
@@ -165,6 +175,7 @@ part('skip').addEventListener('click', (/** @type {Event} */ event) => {
     event.preventDefault();
     part(me.known ? 'main' : 'token').focus();
 });
-readWire();
+part('token').addEventListener('input', () => faultAt(part('token')));
 show();
 part('token').focus();
+goInByCertificate();

@@ -21,6 +21,8 @@ class Relay(socketserver.ThreadingTCPServer):
         self.desk_port = self.other_port = desk_port
         # What it answers a reader itself, by the path.
         self.shows: Callable[[str], bytes | None] = lambda path: None
+        # Whose token is sent where a request has none, as a site does that knows certificates.
+        self.token = ""
         # What is done to the next commands, in turn; all others pass.
         self.plan: list[str] = []
         # A command's answer is here, and is held.
@@ -62,6 +64,8 @@ class Handler(BaseHTTPRequestHandler):
         desk = http.client.HTTPConnection("127.0.0.1", self.server.desk_port, timeout=120)
         own = ("host", "connection")
         fields = {name: value for name, value in self.headers.items() if name.lower() not in own}
+        if self.server.token:
+            fields.setdefault("Desk-Token", self.server.token)
         desk.request(self.command, self.path, body if self.command == "POST" else None, fields)
         answer = desk.getresponse()
         given = answer.read()

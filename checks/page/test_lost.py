@@ -123,8 +123,15 @@ def test_an_upload_shows_how_far_it_is_and_can_be_stopped(browser: Browser, site
     browser.press("Submit")
     value = "document.querySelector('progress')?.value"
     browser.has("the bar moves", f"return {value} > 0.02 && {value} < 1")
+    browser.sees("Submit large.efi: sending…", " %")
+    assert "waiting for the desk" not in browser.text()
+    # On another view the bar and its button stand above.
+    browser.go("requests")
+    browser.sees("Submit large.efi: under way.")
+    browser.has("the bar moves on", f"return {value} < 1")
     browser.press("Stop")
-    browser.sees("stopped.")
+    browser.sees("Submit large.efi: stopped.")
+    expect(browser.all("#waiting progress"), [], "the bar behind a stop")
     browser.uploads_at(-1)
     expect(site.shows("ann", "/requests"), [], "the requests behind a stopped upload")
 

@@ -78,6 +78,8 @@ export class Command {
         this.lost = { kind: 'lost', status: 0 };
         /** @type {HTMLElement | null} where its view shows that its answer is lost */
         this.box = null;
+        /** @type {HTMLElement | null} its bar and *Stop*, if it has a file */
+        this.bar = null;
         /** Ends the wait for the button. */
         this.release = (/** @type {boolean} */ _again) => {};
     }

@@ -23,7 +23,7 @@ import { changed } from '../desk/standing.js';
 export async function act(command, place, how = {}) {
     const off = (how.off ?? []).filter((control) => !control.disabled);
     for (const control of off) control.disabled = true;
-    const answer = await command.run((now) => shows(now, place), how);
+    const answer = await command.run((now) => shows(now, place), told(command, place, how));
     for (const control of off) control.disabled = false;
     if (command.isGone()) return null;
     // (what was read came from another desk)
@@ -35,6 +35,19 @@ export async function act(command, place, how = {}) {
     if (!place.isConnected) elsewhere(command, answer);
     return answer.kind === 'value' ? answer.value : null;
 }
+
+// How a command goes out whose body takes its time: the place says so once all of it is sent.
+/** @param {Command} command @param {HTMLElement} place @param {import('../desk/api.js').How} how */
+function told(command, place, { stop, progress: shown }) {
+    const progress = shown && ((/** @type {number} */ some, /** @type {number} */ whole) => {
+        shown(some, whole);
+        if (some === whole && command.state === 'sending') fill(place, quiet(sentWords(command)));
+    });
+    return { stop, progress };
+}
+
+/** @param {Command} command */
+const sentWords = ({ what }) => `${what}: sent, waiting for the desk…`;
 
 // Shows the view anew, as its address does.
 const lookAgain = () => dispatchEvent(new Event('hashchange'));
@@ -69,13 +82,17 @@ export function anew(place, first) {
 
 /** @param {Command} command @param {HTMLElement} place */
 function shows(command, place) {
-    const { state, what, lost } = command;
-    if (state === 'sending') fill(place, quiet(`${what}: sent, waiting for the desk…`));
+    const { state, what, lost, bar } = command;
+    if (state === 'sending') fill(place, quiet(bar ? `${what}: sending…` : sentWords(command)));
     if (state === 'again') {
         fill(place, box('care', p(`${lostWords(lost)} Asking again with the same key…`)));
     }
     if (state === 'lost') fill(place, (command.box = lostBox(command)));
 }
+
+// What is shown above every view of an upload that goes on while its own view is left.
+/** @param {Command} command */
+export const underWay = ({ what, bar }) => box('note', p(strong(`${what}: under way.`)), bar);
 
 // What is shown of a command whose answer is still missing after all tries.
 /** @param {Command} command */

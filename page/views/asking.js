@@ -3,7 +3,8 @@
 
 import { act, refusalBox } from './act.js';
 import {
-    actSection, answers, box, buttons, faults, fill, h, p, quiet, strong, submitButton, sure,
+    actSection, answers, box, buttons, faultAt, faulty, fill, h, p, quiet, strong, submitButton,
+    sure,
 } from './dom.js';
 import { digest, proposalLink } from './marks.js';
 import { knownOf } from '../desk/doubts.js';
@@ -15,6 +16,11 @@ import { grouped } from '../formats/words.js';
 /** @typedef {import('../desk/doubts.js').Doubt} Doubt */
 /** @typedef {import('../desk/doubts.js').Known} Known */
 /** @typedef {import('../desk/journal.js').Command} Command */
+/**
+ * What a form makes of its fields: what is wrong with each; or a command and doubts.
+ * @typedef {{ faults: [input: HTMLElement, fault: string][] }
+ *   | { doubts: (all: Known) => Doubt[], command: () => Command }} Made
+ */
 
 /** How many doubts are shown. */
 const SHOWN = 12;
@@ -91,22 +97,19 @@ export const formPart = (title, onsubmit, body, said) => (
 );
 
 /**
- * A form whose button proposes what `make` reads from its fields: what is wrong with it, and the
- * field where it is, if one is; or a command and doubts.
+ * A form whose button proposes what `make` reads from its fields.
  * @param {string} title
  * @param {Child[]} body
- * @param {() => { fault: string, at?: HTMLElement }
- *   | { doubts: (all: Known) => Doubt[], command: () => Command }} make
+ * @param {() => Made} make
  */
 export function form(title, body, make) {
     const said = answers();
-    const fault = faults();
     const go = submitButton('Propose');
     const submit = onceAtATime(async () => {
         fill(said);
+        for (const one of place.querySelectorAll('[aria-invalid]')) faultAt(one);
         const made = make();
-        fault.textContent = 'fault' in made ? made.fault : '';
-        if ('fault' in made) return made.at?.focus();
+        if ('faults' in made) return faulty(...made.faults);
         fill(said, quiet('Reading from the desk…'));
         const all = await known();
         fill(said);
@@ -114,5 +117,6 @@ export function form(title, body, make) {
         if (await settled(made.doubts(all))) await propose(made.command(), said, [go]);
         return undefined;
     });
-    return formPart(title, submit, [body, fault, buttons(go)], said);
+    const place = formPart(title, submit, [body, buttons(go)], said);
+    return place;
 }

@@ -1,6 +1,6 @@
 // A certificate, by its file or by the SHA-256 of its TBSCertificate.
 
-import { box, facts, field, fill, h, line, status, strong } from './dom.js';
+import { box, facts, faultAt, field, fill, line, status, strong } from './dom.js';
 import { fileField } from './files.js';
 import { digest } from './marks.js';
 import { withName } from '../desk/signer.js';
@@ -17,8 +17,8 @@ const NO_SUM = 'isn’t worked out: browsers do it over https alone';
  * @typedef {import('../desk/signer.js').Certificate & { der: Uint8Array }} Certificate
  */
 
-// Fields for one certificate: `typed` gives what stands there as its name in dbx, `given` those
-// whose files were chosen.
+// Fields for one certificate: the last one, `input`, has its name in dbx; `given` has those whose
+// files were chosen.
 export function certificateField() {
     const input = line({ class: 'mono' });
     /** @type {Map<string, import('../formats/certificates.js').Given>} */
@@ -26,9 +26,10 @@ export function certificateField() {
     const { place, said } = certificateFile('Its file', (chosen) => {
         input.value = chosen?.name ?? '';
         if (chosen) given.set(chosen.name, givenOf(chosen.name, chosen.der));
+        faultAt(input);
     });
     const name = field('Or the SHA-256 of its TBSCertificate', input, HINT);
-    return { parts: [place, said, name], typed: () => input.value, given };
+    return { parts: [place, said, name], input, given };
 }
 
 /** @param {Certificate} certificate */
@@ -55,7 +56,7 @@ export function certificateFile(label, take) {
         take(null);
         if (!chosen) return;
         const found = certificateIn(chosen.bytes);
-        if ('fault' in found) return fill(said, h('p', { class: 'fault' }, found.fault));
+        if ('fault' in found) return faultAt(input, found.fault);
         const certificate = { ...await withName(certificateOf(found.der)), der: found.der };
         fill(said, box('note', certificateFacts(certificate)));
         return take(certificate);

@@ -36,14 +36,44 @@ export function fill(element, ...children) {
 
 let fields = 0;
 
-// A field with its label and a hint, tied together for those who hear the page.
+// A field with its label, a hint and what is wrong, tied together for those who hear the page.
 /** @param {string} label @param {HTMLElement} input @param {Child} [hint] */
 export function field(label, input, hint) {
     fields += 1;
     input.id ||= `field-${fields}`;
     const told = hint ? h('p', { class: 'hint', id: `${input.id}-hint` }, hint) : null;
-    if (told) input.setAttribute('aria-describedby', told.id);
-    return h('div', { class: 'field' }, h('label', { for: input.id }, label), told, input);
+    const fault = h('p', { class: 'fault', id: `${input.id}-fault`, role: 'status' });
+    input.setAttribute('aria-describedby', told ? `${told.id} ${fault.id}` : fault.id);
+    input.addEventListener('input', () => faultAt(input));
+    return h('div', { class: 'field' }, h('label', { for: input.id }, label), told, fault, input);
+}
+
+/** @param {Element} input @returns {Element | null | undefined} where it stands what is wrong */
+const faultOf = (input) => input.closest('.field')?.querySelector('.fault');
+
+/** @param {Element} input */
+export const faultIn = (input) => faultOf(input)?.textContent ?? '';
+
+// Says what is wrong at a field, until it changes; nothing where nothing is.
+/** @param {Element} input @param {string} [fault] */
+export function faultAt(input, fault = '') {
+    const place = faultOf(input);
+    if (place) place.textContent = fault;
+    if (fault) input.setAttribute('aria-invalid', 'true');
+    else input.removeAttribute('aria-invalid');
+}
+
+/**
+ * Says at each of these fields what is wrong there, and gives the focus to the first where
+ * something is.
+ * @param {...[input: HTMLElement, fault: string]} checked
+ * @returns {boolean} whether something is
+ */
+export function faulty(...checked) {
+    for (const [input, fault] of checked) faultAt(input, fault);
+    const first = checked.find(([, fault]) => fault !== '');
+    first?.[0].focus();
+    return first !== undefined;
 }
 
 // A line to type in.
@@ -63,10 +93,9 @@ export const p = maker('p');
 export const quiet = maker('p', { class: 'quiet' });
 export const strong = maker('strong');
 export const buttons = maker('div', { class: 'buttons' });
-// Places that a screen reader speaks as they change: of answers, of what is wrong with a form, ..
+// Places that a screen reader speaks as they change.
 export const status = maker('div', { role: 'status' });
 export const answers = maker('div', { class: 'answer', role: 'status' });
-export const faults = maker('p', { class: 'fault', role: 'status' });
 export const quietStatus = maker('p', { class: 'quiet', role: 'status' });
 
 // A box of one colour: `good`, `bad`, `care` or `note`.

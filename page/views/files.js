@@ -1,13 +1,19 @@
 // A file that is chosen or dropped, and its SHA-256, worked out in the page.
 
-import { button, field, fill, h, p, quiet } from './dom.js';
+import { button, faultAt, faultIn, field, fill, h, p, quiet } from './dom.js';
 import { digest } from './marks.js';
 import { sha256 } from '../formats/digests.js';
 import { wire } from '../formats/wire.js';
 import { size } from '../formats/words.js';
 
-/** What is said where an image that was chosen isn't read, or can't be. */
-export const UNREAD = 'The image isn’t read yet: wait, or take it out.';
+/** What is said where a file that was chosen isn't read, or can't be. */
+export const UNREAD = 'The file isn’t read yet: wait, or take it out.';
+
+// What is wrong where a file is due and there is none.
+/** @param {HTMLInputElement} input @param {string} words where none was chosen */
+export const noFile = (input, words) => (
+    input.files?.length ? faultIn(input) || UNREAD : words
+);
 
 const NO_SUM = 'isn’t worked out: browsers do it over https alone.';
 
@@ -33,11 +39,13 @@ export function fileField(label, hint, take, most = wire.limits.image) {
         chosen(undefined);
         input.focus();
     }, 'small');
-    const fault = (/** @type {string} */ text) => (
-        fill(told, h('p', { class: 'fault' }, text, ' ', takeOut))
-    );
+    const fault = (/** @type {string} */ text) => {
+        faultAt(input, text);
+        fill(told, takeOut);
+    };
     const chosen = async (/** @type {File | undefined} */ file) => {
         const mine = ++turn;
+        faultAt(input);
         take(null);
         if (!file) return fill(told);
         const { name } = file;

@@ -2,7 +2,7 @@
 
 import { refusalBox } from './act.js';
 import { address, callTable } from './calls.js';
-import { buttons, faults, field, fill, h, heading, line, quiet, quietStatus } from './dom.js';
+import { buttons, faulty, field, fill, h, heading, line, quiet, quietStatus } from './dom.js';
 import { isComponent } from './numbers.js';
 import { choices } from './table.js';
 import { callerOf, minutes, readOn, slices } from '../desk/calls.js';
@@ -26,26 +26,23 @@ export function historyView(place) {
     list(place);
 }
 
+const NOTHING = 'A SHA-256 has 64 hexadecimal digits; a component has no spaces.';
+
 // Asks why something is barred or allowed.
 function askForm() {
-    const fault = faults();
     const input = line();
     const onsubmit = (/** @type {Event} */ event) => {
         event.preventDefault();
         const text = input.value.trim();
         const hex = digestTyped(text);
         const isName = isComponent(text) && !/^[0-9a-fA-F:]{32,}$/.test(text);
-        const isGood = hex !== null || isName;
-        fault.textContent = isGood
-            ? ''
-            : 'A SHA-256 has 64 hexadecimal digits; a component has no spaces.';
-        if (!isGood) return input.focus();
+        if (faulty([input, hex !== null || isName ? '' : NOTHING])) return undefined;
         location.hash = address(hex ? { hex } : { component: text });
         return undefined;
     };
     const why = field('Why? A SHA-256, or a component', input);
     const go = buttons(h('button', {}, 'Ask why'));
-    return h('form', { class: 'ask', novalidate: true, onsubmit }, why, go, fault);
+    return h('form', { class: 'ask', novalidate: true, onsubmit }, why, go);
 }
 
 /**

@@ -63,22 +63,23 @@ export function imagesForm(number) {
         + 'Several become one proposal.';
     const body = [image.parts, meant, field('Digests, one a line', input, hint)];
     return form('Revoke images by their digests', body, () => (
-        image.isUnread() ? { fault: UNREAD, at: image.input } : revocation(input.value)
+        image.isUnread() ? { faults: [[image.input, UNREAD]] } : revocation(input)
     ));
 }
 
-/** @param {string} text digests, one a line */
-function revocation(text) {
-    const lines = text.split('\n');
+/** @param {HTMLTextAreaElement} input digests, one a line @returns {import('./asking.js').Made} */
+function revocation(input) {
+    const lines = input.value.split('\n');
     const wrong = lines.findIndex((line) => line.trim() !== '' && !digestTyped(line));
-    if (wrong >= 0) return { fault: `Line ${wrong + 1} isn’t 64 hexadecimal digits.` };
+    const odd = `Line ${wrong + 1} isn’t 64 hexadecimal digits.`;
+    if (wrong >= 0) return { faults: [[input, odd]] };
     const given = [...new Set(lines.flatMap((line) => digestTyped(line) ?? []))];
     const [first] = given;
-    if (!first) return { fault: 'Give a digest.' };
+    if (!first) return { faults: [[input, 'Give a digest.']] };
     const rows = given.map((digest) => `sha256,${digest},\n`);
     const csv = `kind,value,generation\n${rows.join('')}`;
     return {
-        doubts: (/** @type {import('../desk/doubts.js').Known} */ all) => [
+        doubts: (all) => [
             ...lines.flatMap((line) => colonDoubts(line, 'image')),
             // Both digests of an image are there: the doubt that there are two is settled.
             ...given.flatMap((digest) => digestDoubts(digest, all))

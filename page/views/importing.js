@@ -3,9 +3,9 @@
 import { refusalBox } from './act.js';
 import { formPart, known, propose, settled } from './asking.js';
 import {
-    answers, box, buttons, faults, field, fill, h, p, status, strong, submitButton,
+    answers, box, buttons, faulty, field, fill, h, p, status, strong, submitButton,
 } from './dom.js';
-import { fileField } from './files.js';
+import { fileField, noFile } from './files.js';
 import { STAMP_FAULT, isStamp, numberLine } from './numbers.js';
 import { stampDoubts, stampOf } from '../desk/generations.js';
 import { look } from '../desk/imports.js';
@@ -33,7 +33,6 @@ function lookBox({ fault, kind, lines }) {
 export function importForm() {
     const said = answers();
     const inside = status();
-    const fault = faults();
     const stamp = numberLine();
     const stampField = field('Stamp', stamp, STAMP_HINT);
     stampField.hidden = true;
@@ -44,7 +43,6 @@ export function importForm() {
         const mine = ++turn;
         found = null;
         stampField.hidden = true;
-        fault.textContent = '';
         fill(inside);
         fill(said);
         if (!chosen) return;
@@ -62,18 +60,17 @@ export function importForm() {
     const go = submitButton('Propose this import');
     const submit = async (/** @type {Event} */ event) => {
         event.preventDefault();
-        if (!found || found.look.fault) {
-            fault.textContent = found ? 'This file can’t be imported.' : 'Choose a file.';
-            return input.focus();
-        }
+        const none = noFile(input, 'Choose a file.');
+        const wrong = found?.look.fault ? 'This file can’t be imported.' : '';
+        if (faulty([input, found ? wrong : none]) || !found) return undefined;
         const { look: { asksStamp, raises, doubts, path, body }, name, present } = found;
-        fault.textContent = asksStamp && !isStamp(stamp.value) ? STAMP_FAULT : '';
-        if (fault.textContent) return stamp.focus();
+        const isOdd = asksStamp && !isStamp(stamp.value);
+        if (faulty([stamp, isOdd ? STAMP_FAULT : ''])) return undefined;
         const own = asksStamp && raises ? stampDoubts(Number(stamp.value), present) : [];
         if (!(await settled([...doubts, ...own]))) return undefined;
         const fields = asksStamp ? { 'Desk-Stamp': stamp.value } : undefined;
         return propose(new Command(`Import of ${name}`, path, body, fields), said, [go, input]);
     };
-    const body = [place, inside, stampField, fault, buttons(go)];
+    const body = [place, inside, stampField, buttons(go)];
     return formPart('Import revocations', submit, body, said);
 }

@@ -4,9 +4,9 @@ import { act, refusalBox } from './act.js';
 import { known, onceAtATime, settled } from './asking.js';
 import { certificateFacts, certificateFile } from './certificates.js';
 import {
-    answers, box, buttons, done, faults, field, fill, h, line, p, quiet, strong, submitButton, sure,
+    answers, box, buttons, done, faulty, field, fill, h, line, p, quiet, strong, submitButton, sure,
 } from './dom.js';
-import { UNREAD, fileField } from './files.js';
+import { fileField, noFile } from './files.js';
 import { besideOf, noFacts, postImage } from './images.js';
 import { barPlace } from './sending.js';
 import { colonDoubts, digestDoubts } from '../desk/doubts.js';
@@ -40,7 +40,6 @@ export function listing(again) {
 /** @param {Sends} sends */
 function certificateForm(sends) {
     const said = answers();
-    const fault = faults();
     const bar = barPlace();
     /** @type {Certificate | null} */
     let chosen = null;
@@ -53,12 +52,9 @@ function certificateForm(sends) {
     const go = submitButton('List this certificate');
     const onsubmit = async (/** @type {Event} */ event) => {
         event.preventDefault();
-        fault.textContent = chosen ? '' : 'Choose a certificate’s file.';
-        if (!chosen) return file.input.focus();
-        if (!signed && image.input.files?.length !== 0) {
-            fault.textContent = UNREAD;
-            return image.input.focus();
-        }
+        const none = chosen ? '' : noFile(file.input, 'Choose a certificate’s file.');
+        const unread = signed ? '' : noFile(image.input, '');
+        if (faulty([file.input, none], [image.input, unread]) || !chosen) return undefined;
         const certificate = chosen;
         go.disabled = true;
         fill(said);
@@ -69,7 +65,7 @@ function certificateForm(sends) {
         const command = new Command('List a certificate', '/db/certificates', certificate.der);
         return sends(command, said, go);
     };
-    const body = [file.place, file.said, image.place, bar, fault, buttons(go), said];
+    const body = [file.place, file.said, image.place, bar, buttons(go), said];
     return h('form', { class: 'act', novalidate: true, onsubmit }, body);
 }
 
@@ -117,14 +113,13 @@ function meant(certificate, { doubts, image }) {
 /** @param {Sends} sends */
 function digestForm(sends) {
     const said = answers();
-    const fault = faults();
     const input = line({ class: 'mono' });
     const go = submitButton('List this digest');
     const onsubmit = onceAtATime(async () => {
         const typed = input.value;
         const hex = digestTyped(typed);
-        fault.textContent = hex ? '' : 'A digest is 64 hexadecimal digits.';
-        if (!hex) return input.focus();
+        const odd = hex ? '' : 'A digest is 64 hexadecimal digits.';
+        if (faulty([input, odd]) || !hex) return undefined;
         fill(said, quiet('Reading from the desk…'));
         const all = await known();
         fill(said);
@@ -136,6 +131,6 @@ function digestForm(sends) {
         return sends(jsonCommand('List a digest', '/db/digests', { digest: hex }), said, go);
     });
     const hint = 'Its Authenticode digest, as a request has it.';
-    const body = [field('Digest of an image', input, hint), fault, buttons(go), said];
+    const body = [field('Digest of an image', input, hint), buttons(go), said];
     return h('form', { class: 'act', novalidate: true, onsubmit }, body);
 }

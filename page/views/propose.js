@@ -3,7 +3,7 @@
 
 import { form } from './asking.js';
 import { certificateField } from './certificates.js';
-import { field, fill, h, heading, line, quiet, quietStatus } from './dom.js';
+import { faultAt, field, fill, h, heading, line, quiet, quietStatus } from './dom.js';
 import { imagesForm } from './imagesform.js';
 import { importForm } from './importing.js';
 import { STAMP_FAULT, isComponent, isGeneration, isStamp, numberLine } from './numbers.js';
@@ -14,18 +14,16 @@ import { standing } from '../desk/standing.js';
 import { digestTyped } from '../formats/digests.js';
 import { counted } from '../formats/words.js';
 
-/** @typedef {import('../desk/doubts.js').Known} Known */
-
 const NO_CERTIFICATE = 'Choose a certificate’s file, or give 64 hexadecimal digits.';
 const NO_COMPONENT = 'A component’s name has no space and no comma, as shim or grub.debian.';
 const NO_GENERATION = 'A generation is a number from 1 to 4,294,967,295.';
 
 function certificateForm() {
-    const { parts, typed, given } = certificateField();
+    const { parts, input, given } = certificateField();
     return form('Revoke a certificate', parts, () => {
-        const text = typed();
+        const text = input.value;
         const digest = digestTyped(text);
-        if (!digest) return { fault: NO_CERTIFICATE };
+        if (!digest) return { faults: [[input, NO_CERTIFICATE]] };
         const what = 'Propose to revoke a certificate';
         const colons = colonDoubts(text, 'certificate');
         return {
@@ -51,6 +49,7 @@ function levelForm() {
         const count = counted(level.names.size, 'generation');
         fill(told, `The level has the stamp ${level.stamp} and ${count}.`);
         stamp.value ||= String(stampOf(new Date(), level.stamp));
+        faultAt(stamp);
         name.addEventListener('input', () => fill(told, presentWords(level, name.value)));
     });
     const fields = [
@@ -60,9 +59,7 @@ function levelForm() {
         field('Stamp', stamp, 'The date and two digits.'),
     ];
     const body = [h('div', { class: 'row' }, fields), told];
-    return form('Raise a generation of the level', body, () => (
-        raised(name.value, generation.value, stamp.value)
-    ));
+    return form('Raise a generation of the level', body, () => raised(name, generation, stamp));
 }
 
 /** @param {import('../formats/sbat.js').Level} level @param {string} name */
@@ -72,16 +69,25 @@ function presentWords({ names }, name) {
         : `The level has no generation of ${name || 'it'} yet.`;
 }
 
-// What is proposed, as it was typed, or what is wrong with it.
-/** @param {string} component @param {string} typed @param {string} day */
-function raised(component, typed, day) {
-    if (!isComponent(component)) return { fault: NO_COMPONENT };
-    if (!isGeneration(typed)) return { fault: NO_GENERATION };
-    if (!isStamp(day)) return { fault: STAMP_FAULT };
-    const [generation, stamp] = [Number(typed), Number(day)];
+/**
+ * What is proposed, as it was typed, or what is wrong with it.
+ * @param {HTMLInputElement} name
+ * @param {HTMLInputElement} typed
+ * @param {HTMLInputElement} day
+ * @returns {import('./asking.js').Made}
+ */
+function raised(name, typed, day) {
+    const component = name.value;
+    const [generation, stamp] = [Number(typed.value), Number(day.value)];
+    const areGood = [isComponent(component), isGeneration(typed.value), isStamp(day.value)];
+    if (areGood.includes(false)) {
+        const words = [NO_COMPONENT, NO_GENERATION, STAMP_FAULT];
+        const fields = [name, typed, day];
+        return { faults: fields.map((one, at) => [one, areGood[at] ? '' : words[at]]) };
+    }
     const value = { component, generation, stamp };
     return {
-        doubts: (/** @type {Known} */ all) => [
+        doubts: (all) => [
             ...generationDoubts(component, generation, all),
             ...stampDoubts(stamp, all.now.level.stamp),
         ],

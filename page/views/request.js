@@ -42,7 +42,7 @@ function whole(place, request) {
     const facts = h('div', {}, factsPart(request, null));
     const components = h('div', {}, componentsPart(request, null));
     place.append(
-        h('p', { class: 'title' }, title),
+        h('h2', { class: 'title' }, title),
         p(badge(state), ` ${wire.words.requests[state]?.means ?? ''}`),
         quiet(
             `Submitted by ${submitter}. ${size(request.length)}. `,

@@ -1,9 +1,9 @@
 // The signed file of an approved request is returned.
 
 import {
-    answers, asks, box, buttons, faults, fill, h, p, quiet, section, status, strong, submitButton,
+    answers, asks, box, buttons, faulty, fill, h, p, quiet, section, status, strong, submitButton,
 } from './dom.js';
-import { fileField } from './files.js';
+import { fileField, noFile } from './files.js';
 import { nextPart } from './inbox.js';
 import { barPlace, compared, sent } from './sending.js';
 import { get } from '../desk/api.js';
@@ -26,21 +26,19 @@ export function returnForm(request, again) {
     const { number, file: submitted } = request;
     const bar = barPlace();
     const said = answers();
-    const fault = faults();
+    const odd = status();
     /** @type {Chosen | null} */
     let file = null;
     const hint = 'Choose it, or drop it here.';
     const { place, input } = fileField('Signed file', hint, (chosen) => {
         file = chosen;
-        fault.textContent = chosen?.sha256 === submitted ? UNSIGNED : '';
+        fill(odd, chosen?.sha256 === submitted ? box('care', UNSIGNED) : null);
     });
     const go = submitButton('Return it');
     const onsubmit = async (/** @type {Event} */ event) => {
         event.preventDefault();
-        if (!file) {
-            fault.textContent = 'Choose the signed file.';
-            return input.focus();
-        }
+        const none = file ? '' : noFile(input, 'Choose the signed file.');
+        if (faulty([input, none]) || !file) return undefined;
         const { bytes, sha256 } = file;
         const words = await doubtOf(request, bytes);
         if (words && !(await asks(returnQuestion(number, words)))) return undefined;
@@ -53,7 +51,7 @@ export function returnForm(request, again) {
         fill(said, quiet(`Request ${number} is signed. Comparing its SHA-256…`));
         return again(await returned(number, sha256));
     };
-    const body = [place, fault, buttons(go), bar];
+    const body = [place, odd, buttons(go), bar];
     const form = h('form', { class: 'act', novalidate: true, onsubmit }, body);
     const verify = h('code', {}, 'osslsigncode verify');
     const taken = p(TAKEN, verify, ' (deskctl’s manual has the line).');

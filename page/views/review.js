@@ -2,7 +2,7 @@
 
 import { act, refusalBox } from './act.js';
 import {
-    actSection, answers, asks, box, button, buttons, faults, field, fill, h, p, section, strong,
+    actSection, answers, asks, box, button, buttons, faulty, field, fill, h, p, section, strong,
 } from './dom.js';
 import { nextPart } from './inbox.js';
 import { matching } from '../desk/answers.js';
@@ -31,12 +31,10 @@ export function reviewForm(request, looked, again) {
     if (submitter === me.name) return section(title, p(OWN));
     if (votes.some(({ reviewer }) => reviewer === me.name)) return section(title, p(VOTED));
     const note = h('textarea', { rows: 2, maxlength: wire.limits.note });
-    const fault = faults();
     const said = answers();
     const gives = async (/** @type {'yes' | 'no'} */ vote) => {
         const text = note.value.replace(/\s*\n\s*/g, ' ');
-        fault.textContent = textFault(text, wire.limits.note, 'note');
-        if (fault.textContent) return note.focus();
+        if (faulty([note, textFault(text, wire.limits.note, 'note')])) return undefined;
         const goesOn = vote === 'no'
             ? await asks(plainQuestion('no', number))
             : await agrees(request, looked.like === 'other', said);
@@ -58,7 +56,6 @@ export function reviewForm(request, looked, again) {
         title,
         p(agreed, ' No: it is rejected at once.'),
         field('Note (if you like)', note, `Up to ${wire.limits.note} ${HINT}`),
-        fault,
         buttons(yes, no),
         said,
     );

@@ -1,5 +1,5 @@
-// An image on its way to the desk: a bar shows how much has gone out, and a button stops it. What
-// arrived is compared by its SHA-256.
+// An image on its way to the desk: a bar shows how much has gone out, and a button stops it, above
+// every view where its own is left. What arrived is compared by its SHA-256.
 
 import { act } from './act.js';
 import { box, button, facts, fill, h, p, strong } from './dom.js';
@@ -12,16 +12,16 @@ export const barPlace = () => h('div', { class: 'sending' });
 export function sendingBar(place, label) {
     const ends = new AbortController();
     const shown = h('progress', { max: 1, value: 0, 'aria-label': label });
-    const own = [shown, button('Stop', () => ends.abort())];
-    fill(place, own);
-    return {
-        stop: ends.signal,
-        progress: (/** @type {number} */ some, /** @type {number} */ whole) => {
-            shown.value = whole > 0 ? some / whole : 1;
-        },
-        // (a newer upload may have put its own there)
-        end: () => own.forEach((one) => one.remove()),
+    const percent = h('span', { class: 'percent', 'aria-hidden': 'true' });
+    const stop = button('Stop', () => ends.abort());
+    const bar = h('div', { class: 'bar' }, shown, percent, stop);
+    fill(place, bar);
+    const progress = (/** @type {number} */ some, /** @type {number} */ whole) => {
+        shown.value = whole > 0 ? some / whole : 1;
+        percent.textContent = `${Math.floor(shown.value * 100)} %`;
     };
+    // (a newer upload may have put its own there)
+    return { bar, stop: ends.signal, progress, end: () => bar.remove() };
 }
 
 /**
@@ -32,7 +32,8 @@ export function sendingBar(place, label) {
  * @param {import('./act.js').Control[]} off
  */
 export async function sent(command, place, said, off) {
-    const { end, ...how } = sendingBar(place, `${command.what}: how much is sent`);
+    const { bar, end, ...how } = sendingBar(place, `${command.what}: how much is sent`);
+    command.bar = bar;
     const reply = await act(command, said, { off, ...how });
     end();
     return reply;

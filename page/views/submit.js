@@ -2,10 +2,10 @@
 
 import { refusalBox } from './act.js';
 import {
-    answers, box, buttons, faults, field, fill, h, heading, line, p, quiet, status, strong,
+    answers, box, buttons, faulty, field, fill, h, heading, line, p, quiet, status, strong,
     submitButton,
 } from './dom.js';
-import { fileField } from './files.js';
+import { fileField, noFile } from './files.js';
 import { requestLink } from './marks.js';
 import { barPlace, compared, sent } from './sending.js';
 import { get } from '../desk/api.js';
@@ -27,7 +27,6 @@ export function submitView(place) {
         'The desk keeps facts of the image, not its bytes, so keep the file for them.',
     ));
     const title = line({ spellcheck: null, maxlength: wire.limits.title, required: true });
-    const fault = faults();
     const bar = barPlace();
     const said = answers();
     const twice = status();
@@ -46,16 +45,15 @@ export function submitView(place) {
         event.preventDefault();
         const text = title.value.trim();
         const odd = text === '' ? 'Give it a title.' : textFault(text, wire.limits.title, 'title');
-        fault.textContent = odd || (file ? '' : 'Choose the image’s file.');
-        if (odd) return title.focus();
-        if (!file) return input.focus();
+        const none = file ? '' : noFile(input, 'Choose the image’s file.');
+        if (faulty([title, odd], [input, none]) || !file) return undefined;
         const { bytes, sha256, file: { name } } = file;
         const command = new Command(`Submit ${name}`, '/requests', bytes, { 'Desk-Title': text });
         const reply = await sent(command, bar, said, [go, title, input]);
         return reply ? arrived(said, reply.request, sha256, form) : undefined;
     };
     const named = field('Title', title, `${HINT} Up to ${wire.limits.title} characters of ASCII.`);
-    const body = [named, drop, twice, fault, buttons(go), bar];
+    const body = [named, drop, twice, buttons(go), bar];
     const form = h('form', { class: 'act', novalidate: true, onsubmit }, body);
     place.append(form, said);
 }

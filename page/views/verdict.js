@@ -1,8 +1,10 @@
 // What the desk says of an image at hand, today. Nothing is kept of it.
 
 import { whyLink } from './calls.js';
-import { answers, box, buttons, fill, h, heading, p, quiet, strong, submitButton } from './dom.js';
-import { fileField } from './files.js';
+import {
+    answers, box, buttons, faulty, fill, h, heading, p, quiet, strong, submitButton,
+} from './dom.js';
+import { fileField, noFile } from './files.js';
 import { matchPart, noFacts, postImage } from './images.js';
 import { barPlace } from './sending.js';
 import { listed } from '../desk/lists.js';
@@ -36,7 +38,8 @@ export function verdictView(place) {
     const go = submitButton('Check it');
     const onsubmit = async (/** @type {Event} */ event) => {
         event.preventDefault();
-        if (!file) return input.focus();
+        const none = file ? '' : noFile(input, 'Choose the image’s file.');
+        if (faulty([input, none]) || !file) return undefined;
         const [chosen, mine] = [file, turn];
         fill(said, quiet('Waiting for the desk…'));
         fill(more);
