@@ -53,7 +53,8 @@ Each command goes out under a key that deskctl makes of the time and of random b
 `20261127T184000Z-7f3a9c5e01b2d846`; the minutes have it. The key and what it is for are written
 into a journal before the request goes out, and taken off when its answer has been printed. Where
 no answer comes (the connection fails, the proxy says 408, 429 or any 5xx but 501, the desk has
-no memory) deskctl asks again with the same key, with growing pauses. If it gives up or is ended,
+no memory) deskctl asks again with the same key, with growing pauses, for a minute; what is no
+command for three seconds, where nobody listens. If it gives up or is ended,
 the next run of the same command (the same desk, caller, words and files) takes that key, and says
 so. So a command takes effect once, whatever was lost. A refusal ends that, unless an answer was
 lost before and the refusal says nothing of it, as one of the proxy's, or a certificate that isn't

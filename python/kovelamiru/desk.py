@@ -15,8 +15,10 @@ from .refusals import next_steps
 from .terminal import Progress, Terminal
 from .words import printable
 
-# Seconds between tries, and how many tries follow the first.
-FIRST_PAUSE, LONGEST_PAUSE, RETRIES = 0.25, 30.0, 7
+# Seconds between tries, and how many tries follow the first: a minute of them.
+FIRST_PAUSE, LONGEST_PAUSE, RETRIES = 0.25, 30.0, 8
+# For so many seconds it is asked again what is no command, where nobody listens.
+NOBODY = 3.0
 # The greatest number that a path takes.
 LAST = 9_999_999
 # Longer bodies are sent once the token is known to be somebody's.
@@ -37,25 +39,29 @@ class Desk(Site):
 
     def ask(self, call: Call) -> Answer:
         """The answer to a call. Where none came it is asked again, by the same words and the same
-        key, unless the asking ends before."""
+        key, unless the asking ends before, or nobody listens to what is no command."""
         if len(call.body) > PREFLIGHT and not self.known_caller:
             self.preflight()
         pause, sent, text = FIRST_PAUSE, False, ""
+        end = time.monotonic() + NOBODY
         for left in range(self.retries, -1, -1):
+            nobody = False
             try:
-                with Progress(self.terminal, len(call.body)) as progress:
+                with Progress(self.terminal, len(call.body), str(self.where)) as progress:
                     answer = self.once(call, progress.at)
                 if not answer.open_ended():
                     return self.judged(answer)
                 text, sent = answer.trouble(), sent or answer.status not in UNTAKEN
             except NoAnswer as lost:
                 text, sent = str(lost), sent or lost.sent
+                nobody = lost.nobody and not call.is_command()
             except Stop as stop:
                 stop.tried = sent
                 raise
-            wait = pause * random.uniform(0.8, 1.2)
-            if not left or time.monotonic() + wait >= self.until:
+            now, wait = time.monotonic(), pause * random.uniform(0.8, 1.2)
+            if not left or now + wait >= self.until or nobody and now >= end:
                 break
+            wait = min(wait, end - now) if nobody else wait
             self.terminal.note(f"deskctl: {printable(text)}; again in {wait:.1f} s")
             time.sleep(wait)
             pause = min(pause * 2, LONGEST_PAUSE)

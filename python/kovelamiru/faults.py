@@ -63,10 +63,10 @@ def no_desks(text: str) -> Lost:
 
 
 class NoAnswer(Exception):
-    """One try without an answer."""
-    def __init__(self, text: str, sent: bool):
+    """One try without an answer; `nobody` listens there, or that isn't known."""
+    def __init__(self, text: str, sent: bool, nobody: bool = False):
         super().__init__(text)
-        self.sent = sent
+        self.sent, self.nobody = sent, nobody
 
 
 class Unreadable(ValueError):

@@ -79,6 +79,10 @@ class Call:
         match = (("If-Match", f'"{tag}"'),) if tag else ()
         return replace(self, fields=self.fields + (("Desk-Key", key),) + match)
 
+    def is_command(self) -> bool:
+        """Whether it has a key, by which it takes effect once."""
+        return any(name == "Desk-Key" for name, _ in self.fields)
+
     def identity(self) -> list[Any]:
         """What the journal knows it by; its key and its tag aren't part of that."""
         return [self.method, self.path, list(self.fields), hashlib.sha256(self.body).hexdigest()]
@@ -207,7 +211,8 @@ class Site:
                        "Is the URL right? A CA of your own is named by --ca FILE.") from None
         except (OSError, ValueError) as error:
             connection.close()
-            raise NoAnswer(f"no connection to {self.where}: {reason(error)}", False) from None
+            raise NoAnswer(f"no connection to {self.where}: {reason(error)}", False,
+                           isinstance(error, ConnectionRefusedError)) from None
         try:
             self.send(connection, call, shown)
             return read_answer(connection.getresponse(), self.most_seconds, self.most_bytes,

@@ -6,6 +6,7 @@ import shutil
 import signal
 import subprocess
 import sys
+import threading
 from typing import Optional, Sequence, TextIO
 
 from .faults import wrong
@@ -124,14 +125,33 @@ class Terminal:
             self.confirm(consequences, "Is that meant? Type yes:")
 
 
+# After so many seconds it is said that an answer is waited for.
+PATIENCE = 3.0
+
+
 class Progress:
-    """A bar for an upload, on a terminal alone."""
-    def __init__(self, terminal: Terminal, size: int):
-        self.err = terminal.err
+    """A bar for an upload, on a terminal alone, and a line where the answer takes long."""
+    def __init__(self, terminal: Terminal, size: int, where: str):
+        self.terminal, self.err, self.where = terminal, terminal.err, where
         self.shown = terminal.err.isatty() and not terminal.quiet and size > 1 << 18
         self.size, self.last = size, -1
+        self.timer = self.begun()
+
+    def begun(self) -> threading.Timer:
+        timer = threading.Timer(PATIENCE, self.waits)
+        timer.daemon = True
+        timer.start()
+        return timer
+
+    def waits(self) -> None:
+        self.cleared()
+        self.terminal.note(f"deskctl: waiting for {self.where}")
 
     def at(self, sent: int) -> None:
+        if self.shown and sent != self.size:
+            self.timer.cancel()
+        elif self.shown:
+            self.timer = self.begun()
         percent = sent * 100 // max(self.size, 1)
         if self.shown and percent != self.last:
             self.last = percent
@@ -144,6 +164,10 @@ class Progress:
         return self
 
     def __exit__(self, *_: object) -> None:
+        self.timer.cancel()
+        self.cleared()
+
+    def cleared(self) -> None:
         if self.shown and self.last >= 0:
             self.err.write("\r" + " " * 60 + "\r")
             self.err.flush()
