@@ -28,7 +28,7 @@ DUE: dict[str, list[str]] = {
              "waits request 2 linux 6.12 arm64|ann|0 of 2 yes|barred",
              "yours request 3 mine|raul|0 of 2 yes|-"],
     "sid": ["waits request 4 shim|ann|approved|-"],
-    "olga": [],
+    "olga": ["yours proposal 2 2 digests, 1 certificate|olga|-"],
     "otto": ["waits proposal 2 2 digests, 1 certificate|olga|-"],
 }
 
@@ -79,8 +79,11 @@ def test_a_terminal_of_80_columns_has_it(filled: Office) -> None:
         "1        linux 6.12 amd64  ann  1 of 2 yes, by rita  -",
         "2        linux 6.12 arm64  ann  0 of 2 yes           barred", "Yours under way: 1",
         "REQUEST  TITLE  BY    STATE       TODAY", "3        mine   raul  0 of 2 yes  -"]), "")
-    status, said = filled["olga"].asked("inbox")
-    expect((status, said), (0, "Nothing waits for you.\n"), "an officer whose proposal is open")
+    status, said = filled["olga"].asked("inbox", size=(24, 80))
+    expect((status, said.splitlines()), (0, [
+        "Nothing waits for you.", "Yours under way: 1",
+        "PROPOSAL  NAMES                     BY    AGE",
+        "2         2 digests, 1 certificate  olga  -"]), "an officer whose proposal is open")
 
 
 def test_a_proposals_age_is_by_the_time_in_its_key() -> None:

@@ -78,10 +78,13 @@ def test_a_submitters_requests_that_changed_count_until_she_looks_at_them(
 
 
 @pytest.mark.parametrize("name, says", [
-    ("olga", "1 digest"), ("otto", "No proposal waits for you."),
-    ("sid", "to be signed"), ("ann", "to be signed"),
+    ("olga", ["Waits for you 1", "1 digest", "None of your proposals is open."]),
+    ("otto", ["No proposal waits for you.", "Yours under way 1", "1 digest", "otto (you)"]),
+    ("sid", ["to be signed"]), ("ann", ["to be signed"]),
 ])
-def test_each_role_sees_what_waits(browser: Browser, site: Site, name: str, says: str) -> None:
+def test_each_role_sees_what_waits(
+    browser: Browser, site: Site, name: str, says: list[str]
+) -> None:
     """A click on the link of the view that is shown looks again."""
     browser.sign_in(token(name))
     # (the first look is over)
@@ -91,5 +94,5 @@ def test_each_role_sees_what_waits(browser: Browser, site: Site, name: str, says
         site.reviews(reviewer, number)
     site.proposes("5" * 64)
     browser.press("For you", tag="a")
-    browser.sees(says)
+    browser.sees(*says)
     looked(browser, f"the first view of {name}")

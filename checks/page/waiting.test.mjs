@@ -4,10 +4,9 @@ import { beforeEach, test } from 'node:test';
 
 import './cases.mjs';
 import { setToken } from '../../page/desk/api.js';
+import { ownProposals, times } from '../../page/desk/proposed.js';
 import { me } from '../../page/desk/session.js';
-import {
-    count, forgetWaiting, inbox, listen, look, seen, times,
-} from '../../page/desk/waiting.js';
+import { count, forgetWaiting, inbox, listen, look, seen } from '../../page/desk/waiting.js';
 import { ageWords, voteWords } from '../../page/formats/words.js';
 import { beginWaiting, endWaiting } from '../../page/views/waiting.js';
 
@@ -165,6 +164,31 @@ test('when proposals were made is read of the newest calls, and of new ones alon
     assert.deepEqual((await times()).get(9), '');
     const minutes = asked.filter((path) => path.startsWith('/minutes'));
     assert.deepEqual(minutes, ['/minutes/401', '/minutes/901']);
+});
+
+test('an officer’s own open proposals are read from the oldest that was open on', async () => {
+    is('officer');
+    const nothing = { requests: [], proposals: [] };
+    desk = {
+        '/changes': { changes: 9 },
+        '/waiting': nothing,
+        '/proposals/from/1': [
+            proposal(1, 'me', 'dropped'), proposal(2, 'otto'), proposal(3, 'me'), proposal(4, 'otto'),
+        ],
+    };
+    await look();
+    assert.deepEqual(numbers(await ownProposals()), [3]);
+    await ownProposals();
+    desk['/changes'] = { changes: 10 };
+    desk['/proposals/from/3'] = [proposal(3, 'me', 'confirmed'), proposal(4, 'otto')];
+    await look();
+    assert.deepEqual(numbers(await ownProposals()), []);
+    desk['/changes'] = { changes: 11 };
+    desk['/proposals/from/5'] = [proposal(5, 'me')];
+    await look();
+    assert.deepEqual([numbers(await ownProposals()), count()], [[5], 0]);
+    const paths = asked.filter((path) => path.startsWith('/proposals'));
+    assert.deepEqual(paths, [1, 3, 5].map((number) => `/proposals/from/${number}`));
 });
 
 test('ages and votes in words', () => {

@@ -8,13 +8,14 @@ const PART = 1000;
 /**
  * @param {'requests' | 'proposals'} name
  * @param {(some: any[]) => void} [take] is given all that came so far, as parts come
+ * @param {number} [first] the least number that is asked for; an older desk gives those before too
  * @returns {Promise<import('./types.js').Answer<any[]>>} all of them
  */
-export async function listed(name, take = () => {}) {
+export async function listed(name, take = () => {}, first = 1) {
     /** @type {any[]} */
     const all = [];
     for (;;) {
-        const from = (all.at(-1)?.number ?? 0) + 1;
+        const from = (all.at(-1)?.number ?? first - 1) + 1;
         const answer = await get(`/${name}/from/${from}`);
         const isOld = answer.kind === 'refused' && answer.name === 'NoRoute';
         if (isOld) return get(`/${name}`);

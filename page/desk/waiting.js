@@ -3,16 +3,12 @@
 
 import { get } from './api.js';
 import { me } from './session.js';
-import { timeOf } from '../formats/sentences.js';
 
 /** @typedef {import('./types.js').Answer} Answer */
 /** @typedef {import('./types.js').Request} Request */
 /** @typedef {import('./types.js').ProposalRow} ProposalRow */
 /** @typedef {{ requests: Request[], proposals: ProposalRow[] }} Waiting as GET /waiting has it */
 /** @typedef {ReturnType<typeof nothing>} Inbox */
-
-/** How many of the newest calls are read for when proposals were made. */
-const NEWEST = 500;
 
 const nothing = () => ({
     /** Whether the desk is older than its routes /changes and /waiting. */
@@ -25,13 +21,11 @@ const nothing = () => ({
     own: new Map(),
     /** @type {Map<number, Request>} those of them that changed, and weren't looked at since */
     changed: new Map(),
-    /** @type {Map<number, string>} when proposals were made, by the clocks of their officers */
-    times: new Map(),
-    /** The number of the last call that was read for that. */
-    timed: 0,
 });
 
 let mine = nothing();
+// What is kept now: another object behind a sign-out.
+export const kept = () => mine;
 /** @type {Promise<Answer> | null} the look under way */
 let running = null;
 /** @type {Promise<Answer> | null} the one that begins behind it */
@@ -170,23 +164,4 @@ export function inbox() {
 export function count() {
     const now = inbox();
     return now ? now.requests.length + now.proposals.length + now.changed.length : 0;
-}
-
-// When proposals were made, by the newest calls; what is known where no more can be read.
-/** @returns {Promise<Map<number, string>>} */
-export async function times() {
-    const into = mine;
-    const { changes, proposals } = { changes: into.changes, proposals: into.waiting?.proposals };
-    const isKnown = proposals?.every(({ number }) => into.times.has(number)) ?? true;
-    if (isKnown || changes <= into.timed) return into.times;
-    const first = Math.max(1, into.timed + 1, changes - NEWEST + 1);
-    const answer = await get(`/minutes/${first}`, 'text');
-    if (answer.kind !== 'value') return into.times;
-    for (const line of answer.value.split('\n').slice(0, -1)) {
-        const [, , key, , reply] = line.split('\t');
-        const made = /^proposed ([0-9]+)$/.exec(reply ?? '');
-        if (made) into.times.set(Number(made[1]), timeOf(key));
-    }
-    into.timed = changes;
-    return into.times;
 }

@@ -6,9 +6,10 @@ import { fill, focusHeading, h, heading, p, quiet } from './dom.js';
 import { named } from './impact.js';
 import { badge, proposalLink, requestLink } from './marks.js';
 import { paged } from './table.js';
+import { ownProposals, times } from '../desk/proposed.js';
 import { me, withYou } from '../desk/session.js';
 import { barredBy, standing } from '../desk/standing.js';
-import { inbox, listen, look, times } from '../desk/waiting.js';
+import { inbox, listen, look } from '../desk/waiting.js';
 import { ageWords, counted, voteWords } from '../formats/words.js';
 
 /** @typedef {import('./dom.js').Child} Child */
@@ -16,8 +17,11 @@ import { ageWords, counted, voteWords } from '../formats/words.js';
 /** @typedef {import('../desk/types.js').ProposalRow} ProposalRow */
 /** @typedef {import('../desk/standing.js').Standing} Standing */
 
-/** What is known besides: the lists of today, and when proposals were made. */
-/** @typedef {{ now: Standing | null, times: Map<number, string> }} Beside */
+/**
+ * What is known besides: the lists of today, an officer's own open proposals, and when proposals
+ * were made.
+ * @typedef {{ now: Standing | null, own: ProposalRow[] | null, times: Map<number, string> }} Beside
+ */
 
 /** @param {HTMLElement} place */
 export function inboxView(place) {
@@ -27,7 +31,7 @@ export function inboxView(place) {
     const lists = h('div', {});
     place.append(told, lists);
     /** @type {Beside} */
-    const beside = { now: null, times: new Map() };
+    const beside = { now: null, own: null, times: new Map() };
     const parts = partsOf(beside);
     const show = () => {
         const all = inbox();
@@ -41,6 +45,7 @@ export function inboxView(place) {
     const more = async () => {
         const all = inbox();
         if (!all) return;
+        beside.own = await ownProposals();
         beside.times = await times();
         const some = all.requests.length + all.changed.length + all.under.length > 0;
         const now = some ? await standing() : null;
@@ -85,7 +90,9 @@ const NOTHING = {
 function partsOf(beside) {
     const empty = NOTHING[me.role] ?? '';
     const requests = requestTable('Requests, oldest first', empty, beside, false);
-    const proposals = proposalTable(empty, beside);
+    const proposals = proposalTable('Proposals, oldest first', empty, beside);
+    const noOwn = 'None of your proposals is open.';
+    const own = proposalTable('Your own proposals, oldest first', noOwn, beside);
     const changed = requestTable('Requests that changed', '', beside, true);
     const none = 'You have no request under way.';
     const under = requestTable('Your own requests, oldest first', none, beside, true);
@@ -98,6 +105,7 @@ function partsOf(beside) {
         (all) => (all.changed.length > 0
             ? part('Yours that changed', changed, all.changed, 'Since you signed in.') : null),
         (all) => (me.submitter ? part('Yours under way', under, all.under) : null),
+        () => (beside.own ? part('Yours under way', own, beside.own) : null),
     ];
 }
 
@@ -138,10 +146,10 @@ function requestTable(caption, empty, beside, own) {
     });
 }
 
-/** @param {string} empty @param {Beside} beside */
-function proposalTable(empty, beside) {
+/** @param {string} caption @param {string} empty @param {Beside} beside */
+function proposalTable(caption, empty, beside) {
     return paged({
-        caption: 'Proposals, oldest first',
+        caption,
         kind: 'wide queue',
         head: ['No', 'It names', 'By', 'Proposed'],
         empty,

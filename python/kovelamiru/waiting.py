@@ -52,6 +52,12 @@ def waiting_of(desk: Desk, me: Me) -> Waiting:
     return Waiting(requests, [])
 
 
+def own_proposals(desk: Desk, me: Me) -> list[dict[str, Any]]:
+    """An officer's own open proposals, which wait for another officer."""
+    return [value for value in desk.listed("/proposals")
+            if value.get("state") == "open" and value.get("officer") == me.name]
+
+
 def changes_of(desk: Desk) -> Optional[int]:
     """A number that changes with what the caller is shown of requests and proposals; nothing at an
     older desk."""

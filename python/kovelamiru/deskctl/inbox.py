@@ -1,15 +1,17 @@
 """The command inbox, which deskctl without words is, too."""
 from __future__ import annotations
 
-from typing import Sequence
+from typing import Mapping, Sequence
 
-from ..answers import Counts, Request, caller_of, shaped
+from ..answers import Counts, Me, Request, caller_of, shaped
 from ..standing import barred_by, revoked_of
-from ..waiting import ages_of, waiting_of, yes_words
+from ..waiting import ages_of, own_proposals, waiting_of, yes_words
 from ..words import kinds
 from .run import Run
 
 Rows = Sequence[tuple[object, ...]]
+# The titles of the two tables.
+WAITS, OWN = "Waits for you", "Yours under way"
 
 
 def request_rows(run: Run, requests: Sequence[Request]) -> Rows:
@@ -20,9 +22,8 @@ def request_rows(run: Run, requests: Sequence[Request]) -> Rows:
              "barred" if now and barred_by(now, one) else "-") for one in requests]
 
 
-def proposal_rows(run: Run, proposals: Sequence[Counts]) -> Rows:
+def proposal_rows(proposals: Sequence[Counts], ages: Mapping[int, str]) -> Rows:
     """Each proposal with what it names, and its age."""
-    ages = ages_of(run.desk, proposals)
     return [(one.number, kinds({name: count for name, count in one.named().items() if count}),
              one.officer, ages.get(one.number, "-")) for one in proposals]
 
@@ -35,6 +36,8 @@ def section(run: Run, title: str, heads: Sequence[str], rows: Rows) -> None:
     elif rows:
         begin = (title.split(" ")[0].lower(), heads[0].lower())
         run.terminal.table(heads, [(*begin, *row) for row in rows], 0, "")
+    elif title == WAITS and run.terminal.wide:
+        run.terminal.note("Nothing waits for you.")
 
 
 def inbox(run: Run) -> None:
@@ -43,14 +46,22 @@ def inbox(run: Run) -> None:
     if run.words.json:
         run.print_json({"proposals": found.proposals, "requests": found.requests})
         return
-    requests = [shaped(Request, one) for one in found.requests]
-    proposals = [shaped(Counts, one) for one in found.proposals]
-    others = [one for one in requests if one.submitter != me.name]
+    if me.role == "officer":
+        officers(run, [shaped(Counts, one) for one in found.proposals],
+                 [shaped(Counts, one) for one in own_proposals(run.desk, me)])
+    else:
+        requesters(run, me, [shaped(Request, one) for one in found.requests])
+
+
+def officers(run: Run, others: Sequence[Counts], own: Sequence[Counts]) -> None:
+    ages = ages_of(run.desk, [*others, *own])
+    heads = ("PROPOSAL", "NAMES", "BY", "AGE")
+    section(run, WAITS, heads, proposal_rows(others, ages))
+    section(run, OWN, heads, proposal_rows(own, ages))
+
+
+def requesters(run: Run, me: Me, requests: Sequence[Request]) -> None:
     heads = ("REQUEST", "TITLE", "BY", "STATE", "TODAY")
-    section(run, "Waits for you", heads, request_rows(run, others))
-    section(run, "Waits for you", ("PROPOSAL", "NAMES", "BY", "AGE"),
-            proposal_rows(run, proposals))
-    if not others and not proposals and run.terminal.wide:
-        run.terminal.note("Nothing waits for you.")
-    mine = [one for one in requests if one.submitter == me.name]
-    section(run, "Yours under way", heads, request_rows(run, mine))
+    rows = request_rows(run, requests)
+    section(run, WAITS, heads, [row for row in rows if row[2] != me.name])
+    section(run, OWN, heads, [row for row in rows if row[2] == me.name])

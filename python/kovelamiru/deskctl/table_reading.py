@@ -50,7 +50,7 @@ READING: tuple[Command, ...] = (
              " token."), "deskctl token > ~/.config/desk.token"),
     Command("inbox", "Your own", "", "show what waits for you, as deskctl without words does",
             inbox, (), "",
-            ("Requests to review or to sign, proposals to confirm, and your own requests under way:"
+            ("Requests to review or to sign, proposals to confirm, and your own under way: requests"
              " with their votes, `barred` where dbx or the level bars the image today, and for"
              " officers a proposal's age by the clock of its proposer. Without a terminal a line of"
              " fields parted by tabs: waits or yours, request or proposal, number, title or what it"
