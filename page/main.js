@@ -9,6 +9,7 @@ import { look } from './desk/waiting.js';
 import { readWire } from './formats/wire.js';
 import { isNumber } from './formats/words.js';
 import { lostBox, refusalBox, underWay } from './views/act.js';
+import { beginWatch, endWatch } from './views/cover.js';
 import { box, faultAt, faulty, fill, h, p, quiet, strong, sure } from './views/dom.js';
 import { historyView } from './views/history.js';
 import { inboxView } from './views/inbox.js';
@@ -117,6 +118,7 @@ function goIn() {
     fill(part('sign-in-answer'));
     show();
     beginWaiting();
+    beginWatch(leave);
     part('main').querySelector('h1')?.focus();
 }
 
@@ -144,6 +146,7 @@ function forget() {
     changed();
     forgetMinutes();
     endWaiting();
+    endWatch();
     for (const open of document.querySelectorAll('dialog')) open.close();
     const places = ['main', 'elsewhere', 'waiting', 'views', 'who', 'sign-in-answer'];
     for (const place of places) fill(part(place));

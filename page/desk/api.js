@@ -15,12 +15,32 @@ let token = '';
 /** Ends what is asked with this token. */
 let person = new AbortController();
 
+/** @type {Promise<void> | null} ends once the person is back who is away */
+let away = null;
+let back = () => {};
+
 /** @param {string} text what Desk-Token has from now on; empty for none */
 export function setToken(text) {
-    token = text;
     person.abort();
     person = new AbortController();
+    goOn(text);
 }
+
+// Forgets the token while the person is away: what isn't sent yet waits.
+export function hold() {
+    token = '';
+    away ??= new Promise((resolve) => (back = resolve));
+}
+
+/** @param {string} text the token with which all goes on */
+export function goOn(text) {
+    token = text;
+    away = null;
+    back();
+}
+
+/** @param {string} text a token @returns {Promise<Answer>} whose it is */
+export const whose = (text) => once('/me', 'json', person.signal, text);
 
 // What a person hears who has signed out: no answer ever comes.
 /** @returns {Promise<any>} */
@@ -31,9 +51,9 @@ export function isToken(text) {
     return /^[!-~]{16,128}$/.test(text);
 }
 
-/** @param {Record<string, string>} fields */
-function headers(fields) {
-    return token === '' ? fields : { 'Desk-Token': token, ...fields };
+/** @param {Record<string, string>} fields @param {string} own a token */
+function headers(fields, own) {
+    return own === '' ? fields : { 'Desk-Token': own, ...fields };
 }
 
 /**
@@ -58,11 +78,15 @@ export const PAUSES = [1000, 2000, 4000];
 /** @param {string} path @param {'json' | 'text' | 'bytes'} [as] @returns {Promise<Answer>} */
 export async function get(path, as = 'json') {
     const { signal } = person;
-    let answer = await once(path, as, signal);
+    const asks = async () => {
+        await away;
+        return once(path, as, signal, token);
+    };
+    let answer = await asks();
     for (const wait of PAUSES) {
         if (answer.kind !== 'lost') return answer;
         await pause(wait);
-        answer = await once(path, as, signal);
+        answer = await asks();
     }
     return answer;
 }
@@ -71,9 +95,10 @@ export async function get(path, as = 'json') {
  * @param {string} path
  * @param {'json' | 'text' | 'bytes'} as
  * @param {AbortSignal} signal of the person who asks
+ * @param {string} own the token
  * @returns {Promise<Answer>}
  */
-async function once(path, as, signal) {
+async function once(path, as, signal, own) {
     if (signal.aborted) return never();
     const ends = new AbortController();
     const end = () => ends.abort();
@@ -81,7 +106,7 @@ async function once(path, as, signal) {
     signal.addEventListener('abort', end);
     try {
         const response = await fetch(path, {
-            headers: headers({}),
+            headers: headers({}, own),
             cache: 'no-store',
             redirect: 'error',
             referrerPolicy: 'no-referrer',
@@ -110,8 +135,9 @@ async function once(path, as, signal) {
  * @returns {Promise<Answer>}
  */
 export function post(path, fields, body, how = {}) {
-    const request = new XMLHttpRequest();
     const { signal } = person;
+    if (away) return away.then(() => (signal.aborted ? never() : post(path, fields, body, how)));
+    const request = new XMLHttpRequest();
     const stop = () => request.abort();
     for (const one of [how.stop, signal]) one?.addEventListener('abort', stop);
     let sent = false;
@@ -145,7 +171,7 @@ export function post(path, fields, body, how = {}) {
         for (const one of [how.stop, signal]) one?.removeEventListener('abort', stop);
     });
     request.open('POST', path);
-    const all = headers(fields);
+    const all = headers(fields, token);
     for (const name of Object.keys(all)) request.setRequestHeader(name, all[name]);
     request.send(body);
     return answer;

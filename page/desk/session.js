@@ -1,6 +1,6 @@
 // Who is signed in, by the desk's own word.
 
-import { get, isToken, setToken } from './api.js';
+import { get, goOn, hold, isToken, setToken, whose } from './api.js';
 import { readWire } from '../formats/wire.js';
 
 const NOBODY = {
@@ -11,6 +11,8 @@ const NOBODY = {
     reviewer: false,
     submitter: false,
     signer: false,
+    /** Whether a token signed in, and not a certificate. */
+    hasToken: false,
 };
 
 const queue = () => ({ state: '', text: '', from: 0, scroll: 0 });
@@ -39,8 +41,24 @@ export async function signIn(token) {
         return told;
     }
     const { name, role } = /** @type {import('./types.js').Person} */ (told.value);
-    Object.assign(me, { known: true, name, role, [role]: true });
+    Object.assign(me, { known: true, name, role, [role]: true, hasToken: token !== '' });
     if (role === 'reviewer') me.submitter = true;
+    return null;
+}
+
+/** The person is away: the token is forgotten, and nothing is asked. */
+export const leaves = hold;
+
+/**
+ * The person is back, if this token is theirs.
+ * @param {string} token
+ * @returns {Promise<import('./types.js').NoValue | 'other' | null>} null if all goes on
+ */
+export async function comesBack(token) {
+    const told = await whose(token);
+    if (told.kind !== 'value') return told;
+    if (told.value.name !== me.name) return 'other';
+    goOn(token);
     return null;
 }
 
