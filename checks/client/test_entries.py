@@ -108,6 +108,25 @@ def test_the_ca_of_a_listed_signer_is_named_with_what_it_issued(office: Office) 
     otto.does("drop 2")
 
 
+def test_an_unlisting_says_what_it_costs_and_wants_the_name_typed(office: Office) -> None:
+    """A script means it."""
+    for line in ("ann submit signed.efi --title 'grub 2.12'", "rita review 1 yes",
+                 "raul review 1 yes", "olga list-certificate certificate.der --yes",
+                 "sid return 1 signed.efi --yes", f"olga list-digest {digest('77')}"):
+        name, words = line.split(" ", 1)
+        office[name].does(words)
+    told = ("since this entry alone allows them: 1. They are those of request 1 (grub 2.12).",
+            "no other officer confirms it", "To unlist it, type Boot signer 2026:")
+    for typed, status in (("", 2), ("yes", 2), ("Boot signer 2026", 0)):
+        ended, said = office["olga"].asked(f"unlist certificate {TBS}", typed)
+        assert ended == status and all(text in said for text in told), said
+        assert (f"certificate {TBS} unlisted" in said) == (status == 0), said
+    ended, said = office["olga"].asked(f"unlist digest {digest('77')}", "yes")
+    assert ended == 2 and "type 77777777:" in said, said
+    assert "No signed file of a request is allowed by this entry alone." in said, said
+    office["olga"].does(f"unlist digest {digest('77')}", "unlisted")
+
+
 STAMP = f"--stamp {TODAY}01"
 
 

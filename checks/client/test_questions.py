@@ -2,6 +2,9 @@
 page/wire/cases/questions.json."""
 from __future__ import annotations
 
+import json
+import re
+from dataclasses import replace
 from typing import Any
 
 import pytest
@@ -12,9 +15,11 @@ from kovelamiru.answers import Request
 from kovelamiru.certificates import Certificate, certificate_in
 from kovelamiru.pkcs7 import signatures_of
 from kovelamiru.questions import (
-    QUESTIONS, carried_question, issued_question, plain_question, unknown_words, yes_question
+    QUESTIONS, carried_question, issued_question, plain_question, unknown_words, unlist_question,
+    yes_question
 )
 from kovelamiru.standing import Standing
+from kovelamiru.unlisting import losing
 
 CASES: dict[str, Any] = wire("cases/questions")
 NOW = Standing(
@@ -85,3 +90,27 @@ def test_an_issuer_that_is_revoked_names_what_it_issued(case: dict[str, Any]) ->
 @pytest.mark.parametrize("case", CASES["unknown"], ids=[one["name"] for one in CASES["unknown"]])
 def test_of_an_unknown_certificate_the_listed_ones_issuers_are_said(case: dict[str, Any]) -> None:
     assert unknown_words(standing_of(case)) == case["says"]
+
+
+# (`<aa>` is a SHA-256 of this byte alone)
+UNLIST: dict[str, Any] = json.loads(
+    re.sub("<(..)>", lambda byte: byte[1] * 32, json.dumps(CASES["unlist"])))
+
+
+@pytest.mark.parametrize("case", UNLIST["cases"], ids=[one["name"] for one in UNLIST["cases"]])
+def test_the_signed_files_that_only_an_entry_allows_are_found(case: dict[str, Any]) -> None:
+    listed, revoked = UNLIST["listed"], UNLIST["revoked"]
+    now = Standing(
+        set(listed["digests"]), dict.fromkeys(listed["certificates"]), set(revoked["digests"]),
+        set(revoked["certificates"]), UNLIST["level"],
+    )
+    assert losing(now, UNLIST["minutes"], case["entry"]) == case["loses"]
+
+
+def test_an_unlisting_says_how_many_lose_their_verdict_and_the_first_of_them() -> None:
+    six = [replace(request_of({}), number=number) for number in range(1, 7)]
+    lines = unlist_question(1234, six[:5])
+    assert ": 1,234. They are those of request 1 (a loader), request 2 (a loader)," in lines[0]
+    assert lines[0].endswith("request 5 (a loader) and 1,229 more.")
+    assert unlist_question(1, six[:1])[0].endswith(": 1. They are those of request 1 (a loader).")
+    assert unlist_question(0, [])[0] == QUESTIONS["unlist"]["none"]

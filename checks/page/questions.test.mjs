@@ -5,8 +5,10 @@ import { test } from 'node:test';
 
 import { json, rowBytes } from './cases.mjs';
 import {
-    carriedWords, issuedWords, plainQuestion, returnQuestion, unknownWords, yesQuestion,
+    carriedWords, issuedWords, plainQuestion, returnQuestion, unknownWords, unlistQuestion,
+    yesQuestion,
 } from '../../page/desk/questions.js';
+import { losingIn } from '../../page/desk/unlisting.js';
 import { givenOf, namesIn } from '../../page/formats/certificates.js';
 import { tbsOf } from '../../page/formats/der.js';
 import { sha256 } from '../../page/formats/digests.js';
@@ -84,3 +86,35 @@ for (const { name, says, ...desk } of unknown) {
         assert.equal(unknownWords(await standingOf(desk)), says);
     });
 }
+
+// (`<aa>` is a SHA-256 of this byte alone)
+const unlist = JSON.parse(JSON.stringify(json('cases/questions').unlist)
+    .replace(/<(..)>/g, (_, byte) => byte.repeat(32)));
+
+for (const { name, entry, loses } of unlist.cases) {
+    test(`${name}: the signed files that only an entry allows are found`, () => {
+        const { listed, minutes } = unlist;
+        const at = {
+            listed: {
+                digests: new Set(listed.digests),
+                certificates: new Map(listed.certificates.map((tbs) => [tbs, { tbs }])),
+            },
+            revoked: {
+                digests: new Set(unlist.revoked.digests),
+                certificates: new Set(unlist.revoked.certificates),
+            },
+            level: { names: new Map(Object.entries(unlist.level)) },
+        };
+        const found = minutes.map((line) => losingIn(at, line, entry));
+        assert.deepEqual(found.filter((number) => number !== null), loses);
+    });
+}
+
+test('an unlisting says how many lose their verdict, and the first of them', () => {
+    const six = Array.from({ length: 6 }, (_, at) => ({ number: at + 1, title: 'a loader' }));
+    const { lines: [first], typed } = unlistQuestion('Boot signer', 1234, six.slice(0, 5));
+    assert.match(first, /: 1,234\. They are those of request 1 \(a loader\), request 2 \(a loader\),/);
+    assert.match(first, /request 5 \(a loader\) and 1,229 more\.$/);
+    assert.deepEqual(typed, { label: 'To unlist it, type Boot signer:', wanted: 'Boot signer' });
+    assert.equal(unlistQuestion('x', 0, []).lines[0], wire.questions.unlist.none);
+});

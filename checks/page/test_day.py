@@ -163,8 +163,19 @@ class Day:
         self.browser.press("List this digest")
         self.browser.sees("It is in db now.")
         self.browser.click(f"[aria-label='Unlist digest {'d' * 12}']")
+        typed = "To unlist it, type dddddddd:"
+        self.browser.fill(typed, "ddddddd")
+        self.browser.asks("No signed file of a request is allowed by this entry alone.")
+        assert not self.browser.one("dialog .danger").is_enabled(), "a name that isn't whole"
+        self.browser.fill(typed, "dddddddd")
         self.browser.press("Unlist it")
         self.browser.sees("Unlisted.")
+
+    def asks_what_an_unlisting_costs(self) -> None:
+        self.goes("olga", "lists")
+        self.browser.click("[aria-label^='Unlist certificate']")
+        self.browser.asks("this entry alone allows them: 1. They are those of request 1 (" + TITLE)
+        self.browser.press("Go back")
 
     def withdraws(self) -> None:
         self.browser.go("requests/2")
@@ -223,6 +234,7 @@ def test_a_day_through_the_page_leaves_the_minutes_of_the_same_day_by_plain_requ
     unsure = "no signature says that it is by a listed one"
     day.returns("Request 1 is signed.", unsure)
     browser.sees("It arrived whole.")
+    day.asks_what_an_unlisting_costs()
     day.proposes_once()
     day.confirms(1, "New in force: 1 digest.", "It bars no image that is allowed today.")
     day.imports()

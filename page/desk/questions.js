@@ -1,14 +1,17 @@
-// What is asked before a vote, a withdrawal, a return, a drop or a proposal, in the words of
-// page/wire/questions.json.
+// What is asked before a vote, a withdrawal, a return, a drop, an unlisting or a proposal, in the
+// words of page/wire/questions.json.
 
 import { barredBy, called } from './standing.js';
 import { certificateOf, isCertificate } from '../formats/certificates.js';
 import { hex } from '../formats/digests.js';
 import { signerWords } from '../formats/pkcs7.js';
 import { wire } from '../formats/wire.js';
-import { counted, filled, ruleWords, someOf } from '../formats/words.js';
+import { counted, filled, grouped, ruleWords, someOf } from '../formats/words.js';
 
-/** @typedef {{ title: string, lines: string[], button: string }} Question */
+/**
+ * @typedef {{ title: string, lines: string[], button: string, typed?: Typed }} Question
+ * @typedef {{ label: string, wanted: string }} Typed what has to be typed before the button goes on
+ */
 
 /** @param {string} name @param {number} number @param {string[]} lines @returns {Question} */
 function question(name, number, lines) {
@@ -98,4 +101,24 @@ export function unknownWords({ listed, revoked }) {
     ));
     const names = someOf([...new Set(others.map(({ issuer }) => issuer))], '; ');
     return names ? filled(wire.questions.propose.unknown, { names }) : '';
+}
+
+/**
+ * Before an entry is taken off the list: how many signed files it alone makes allowed, and the
+ * first of their requests.
+ * @param {string} name what has to be typed
+ * @param {number} count
+ * @param {{ number: number, title: string }[]} first
+ * @returns {Question}
+ */
+export function unlistQuestion(name, count, first) {
+    const { title, loses, none, plain, typed, button } = wire.questions.unlist;
+    const names = someOf(first.map((one) => `request ${one.number} (${one.title})`), ', ', count);
+    const told = count > 0 ? filled(loses, { count: grouped(count), names }) : none;
+    return {
+        title: filled(title, { name }),
+        lines: [told, plain],
+        button,
+        typed: { label: filled(typed, { name }), wanted: name },
+    };
 }

@@ -22,13 +22,16 @@ export function joined(parts) {
     return `${parts.slice(0, -1).join(', ')} and ${parts[parts.length - 1]}`;
 }
 
+/** So many of a list are named. */
+export const SOME = 5;
+
 /**
  * The first names of a list, and how many more there are.
- * @param {string[]} names @param {string} [joint] @param {number} [most]
+ * @param {string[]} names @param {string} [joint] @param {number} [count] of all
  */
-export function someOf(names, joint = ', ', most = 5) {
-    const more = names.length - most;
-    return names.slice(0, most).join(joint) + (more > 0 ? ` and ${grouped(more)} more` : '');
+export function someOf(names, joint = ', ', count = names.length) {
+    const more = count - SOME;
+    return names.slice(0, SOME).join(joint) + (more > 0 ? ` and ${grouped(more)} more` : '');
 }
 
 /** @param {number} length */

@@ -1,19 +1,17 @@
 // What is listed (db), what is revoked (dbx) and the level: to look at, to download, and for
 // officers to list and to take off.
 
-import { act, anew, read, refusalBox } from './act.js';
+import { anew, read, refusalBox } from './act.js';
 import { whyLink } from './calls.js';
-import {
-    answers, button, buttons, done, fill, h, heading, p, quiet, section, sure,
-} from './dom.js';
+import { answers, button, buttons, fill, h, heading, quiet, section } from './dom.js';
 import { download } from './files.js';
 import { listing } from './listing.js';
 import { digest } from './marks.js';
 import { paged } from './table.js';
+import { unlistButton } from './unlisting.js';
 import { get } from '../desk/api.js';
-import { jsonCommand } from '../desk/journal.js';
 import { me } from '../desk/session.js';
-import { changed, standing } from '../desk/standing.js';
+import { standing } from '../desk/standing.js';
 import { counted, grouped, joined } from '../formats/words.js';
 
 /** @typedef {import('./dom.js').Child} Child */
@@ -62,32 +60,10 @@ function downloads({ bytes: { dbx, db } }) {
     );
 }
 
-/**
- * A button that takes an entry off db.
- * @param {HTMLElement} place the view
- * @param {HTMLElement} said
- * @param {'digest' | 'certificate'} kind
- * @param {string} hex
- * @param {string} what
- */
-function unlistButton(place, said, kind, hex, what) {
-    if (!me.officer) return '';
-    const told = `Images that only ${what} makes allowed are then not-listed. `
-        + 'No other officer confirms it.';
-    const one = button('Unlist…', async () => {
-        if (!(await sure('Take it off the list?', [p(told)], 'Unlist it'))) return;
-        const command = jsonCommand(`Unlist ${what}`, '/db/unlist', { digest: hex, kind });
-        const reply = await act(command, said, { off: [one] });
-        changed();
-        if (reply) show(place, done('Unlisted.'));
-    }, 'small');
-    one.setAttribute('aria-label', `Unlist ${what}`);
-    return one;
-}
-
 /** @param {HTMLElement} place @param {Standing} now */
 function listedPart(place, { listed }) {
     const said = answers();
+    const again = (/** @type {Child} */ shown) => show(place, shown);
     const certificates = paged({
         caption: 'Listed certificates',
         head: ['Subject', 'SHA-256 of TBSCertificate', ''],
@@ -96,7 +72,7 @@ function listedPart(place, { listed }) {
         row: (/** @type {Listed} */ { subject, tbs }) => {
             const what = `certificate ${subject || tbs.slice(0, 12)}`;
             const name = ['', digest(tbs, 'the certificate'), ' ', whyLink({ hex: tbs }, what)];
-            const off = unlistButton(place, said, 'certificate', tbs, what);
+            const off = unlistButton('certificate', tbs, what, said, again);
             return [subject || 'no common name', name, off];
         },
     });
@@ -109,7 +85,7 @@ function listedPart(place, { listed }) {
         row: (/** @type {string} */ hex) => {
             const what = `digest ${hex.slice(0, 12)}`;
             const name = ['', digest(hex, 'the digest'), ' ', whyLink({ hex }, what)];
-            return [name, unlistButton(place, said, 'digest', hex, what)];
+            return [name, unlistButton('digest', hex, what, said, again)];
         },
     });
     digests.set([...listed.digests]);
@@ -120,7 +96,7 @@ function listedPart(place, { listed }) {
         quiet(rule),
         certificates.place,
         digests.place,
-        me.officer ? listing((shown) => show(place, shown)) : null,
+        me.officer ? listing(again) : null,
         said,
     );
 }

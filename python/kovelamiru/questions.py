@@ -1,5 +1,5 @@
-"""What is asked before a vote, a withdrawal, a return, a drop or a proposal, in the words of
-page/wire/questions.json."""
+"""What is asked before a vote, a withdrawal, a return, a drop, an unlisting or a proposal, in the
+words of page/wire/questions.json."""
 from __future__ import annotations
 
 from typing import Collection, Optional, Sequence
@@ -9,7 +9,7 @@ from .certificates import Certificate
 from .described import WORDS, described
 from .pkcs7 import Signature
 from .standing import Standing, barred_by
-from .words import counted, some_of
+from .words import counted, printable, some_of
 
 QUESTIONS: dict[str, dict[str, str]] = described("questions")
 
@@ -70,3 +70,13 @@ def unknown_words(now: Standing) -> str:
                             if one and one.of != one.by and one.tbs not in now.revoked_certificates)
     names = some_of(list(issuers), "; ")
     return QUESTIONS["propose"]["unknown"].format(names=names) if issuers else ""
+
+
+def unlist_question(count: int, first: Sequence[Request]) -> list[str]:
+    """Before an entry is taken off the list: how many signed files it alone makes allowed, and the
+    first of their requests."""
+    asks = QUESTIONS["unlist"]
+    names = some_of([f"request {one.number} ({printable(one.title)})" for one in first],
+                    count=count)
+    loses = asks["loses"].format(count=f"{count:,}", names=names) if count else asks["none"]
+    return [loses, asks["plain"]]

@@ -29,6 +29,11 @@ class Standing:
         found = self.certificates.get(tbs)
         return f" ({found.subject})" if found else ""
 
+    def called(self, entry: str) -> str:
+        """A listed entry's name in a sentence: a certificate's, or a digest's first 8 digits."""
+        found = self.certificates.get(entry)
+        return found.called if found else entry[:8]
+
     def named(self, name: bytes) -> list[Certificate]:
         """The listed certificates of this name, which is in DER."""
         return [one for one in self.certificates.values() if one and one.of == name]

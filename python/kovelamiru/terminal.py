@@ -119,10 +119,15 @@ class Terminal:
         if answer != wanted:
             wrong("nothing was sent")
 
-    def ask(self, consequences: Sequence[str]) -> None:
+    @property
+    def can_ask(self) -> bool:
+        return self.asks and not self.yes
+
+    def ask(self, consequences: Sequence[str], question: str = "Is that meant? Type yes:",
+            wanted: str = "yes") -> None:
         """Before what can't be taken back, where a person can be asked: a script means it."""
-        if self.asks and not self.yes:
-            self.confirm(consequences, "Is that meant? Type yes:")
+        if self.can_ask:
+            self.confirm(consequences, question, wanted)
 
 
 # After so many seconds it is said that an answer is waited for.

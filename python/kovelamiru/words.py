@@ -31,10 +31,14 @@ def counted(number: int, one: str, many: str = "") -> str:
     return f"{number:,} {one if number == 1 else many or one + 's'}"
 
 
-def some_of(names: Sequence[str], joint: str = ", ", most: int = 5) -> str:
-    """The first names of a list, and how many more there are."""
-    more = len(names) - most
-    return joint.join(names[:most]) + (f" and {more:,} more" if more > 0 else "")
+# So many of a list are named.
+SOME = 5
+
+
+def some_of(names: Sequence[str], joint: str = ", ", count: int = 0) -> str:
+    """The first names of a list, and how many more there are; `count` is of all."""
+    more = max(count, len(names)) - SOME
+    return joint.join(names[:SOME]) + (f" and {more:,} more" if more > 0 else "")
 
 
 KINDS = {"digests": "digest", "certificates": "certificate", "components": "component"}

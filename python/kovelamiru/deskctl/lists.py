@@ -6,18 +6,21 @@ import re
 from dataclasses import dataclass
 from typing import Callable, Optional, Sequence
 
-from ..answers import said_number
+from ..answers import request_of, said_number
 from ..certificates import Certificate
 from ..csv import csv_of
 from ..doubts import known, level_doubts
 from ..faults import Causes, Refused, wrong
 from ..files import ENTRY_LIMIT, IMAGE_LIMIT, read_file
 from ..http import Call
+from ..minutes import minute_lines
 from ..pem import certificate_of
 from ..pkcs7 import algorithm_doubts, signatures_of
+from ..questions import QUESTIONS, unlist_question
 from ..signer import Beside, image_doubts, known_bodies, listing_doubts, shown
 from ..standing import level_of, standing_of
-from ..words import HEX, counted, desk_json, printable
+from ..unlisting import losing
+from ..words import HEX, SOME, counted, desk_json, printable
 from .images import facts_of, facts_read_by
 from .run import Replies, Run, act
 
@@ -117,7 +120,17 @@ def unlist(run: Run) -> None:
     digest = certificate_named(run, word) if kind == "certificate" else digest_named(run, word)
     call = Call("POST", "/db/unlist", named_body(digest, kind=kind), (), "unlisted",
                 f"unlist {kind} {digest}")
-    act(run, [call], lambda _: run.terminal.say(f"{kind} {digest} unlisted"))
+
+    def asks(taken: bool) -> None:
+        now = standing_of(run.desk) if run.terminal.can_ask and not taken else None
+        if now and digest in (now.certificates if kind == "certificate" else now.digests):
+            name = now.called(digest)
+            numbers = losing(now, minute_lines(run.desk), digest)
+            first = [request_of(run.desk, number) for number in numbers[:SOME]]
+            run.terminal.ask(unlist_question(len(numbers), first),
+                             QUESTIONS["unlist"]["typed"].format(name=name), name)
+
+    act(run, [call], lambda _: run.terminal.say(f"{kind} {digest} unlisted"), asks)
 
 
 def proposed(run: Run, calls: Sequence[Call], asks: Callable[[bool], None], causes: Causes) -> None:

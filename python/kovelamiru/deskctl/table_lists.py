@@ -41,7 +41,9 @@ LISTS: tuple[Command, ...] = (
          word("hex", metavar="HEX|FILE",
               help="an image's digest or file; a certificate's file or TBSCertificate hash")),
         "officers",
-        "It revokes nothing: an image that was allowed by this entry alone is then not listed.",
+        ("It revokes nothing: an image that was allowed by this entry alone is then not listed. On"
+         " a terminal it says of which requests the signed files are, by the minutes, and wants the"
+         " entry's name typed."),
         "deskctl unlist certificate old-signer.pem"),
     Command(
         "revoke", REVOKING, "IMAGE.. [--digest HEX] [--certificate FILE|HEX]",
