@@ -1,0 +1,99 @@
+"""Each question of page/wire/questions.json at a real terminal: whatever isn't a whole yes sends
+nothing, and leaves no key."""
+from __future__ import annotations
+
+import re
+from typing import NamedTuple
+
+import pytest
+
+from checks.support.deskctl import Office
+from checks.support.images import PLAIN, authenticode, changed, digest, sha256
+from checks.support.says import expect, fail
+from checks.support.wire import wire
+
+QUESTIONS: dict[str, dict[str, str]] = wire("questions")
+
+
+class Asked(NamedTuple):
+    """A question and its sentence, who is asked, on which words, and what is typed to go on."""
+
+    question: str
+    sentence: str
+    who: str
+    line: str
+    yes: str = "yes"
+
+
+ASKED = [
+    Asked("yes", "second", "raul", "review 2 yes"),
+    Asked("yes", "barred", "rita", "review 3 yes"),
+    Asked("no", "plain", "rita", "review 4 no"),
+    Asked("withdraw", "plain", "ann", "withdraw 5"),
+    Asked("return", "carried", "sid", "return 1 signed.efi"),
+    Asked("drop", "plain", "otto", "drop 2"),
+]
+# What deskctl asks in words of its own, and what is asked by the page alone.
+OWN = [Asked("propose", "", "olga", f"revoke --digest {sha256(PLAIN)}")]
+BY_PAGE = {("yes", "another")}
+# What is typed, and how the run ends.
+NO = {
+    "y": ("y", 2), "n": ("n", 2), "Enter": ("", 2), "Ctrl-C": ("\x03", 130), "Ctrl-D": ("\x04", 2),
+}
+
+
+def image(number: int) -> bytes:
+    return changed(PLAIN, (1016, number.to_bytes(8, "big").hex()))
+
+
+@pytest.fixture
+def busy(office: Office) -> Office:
+    """An approved request, one with a yes, one that is barred, two open ones; an open proposal."""
+    for number in (2, 3, 4, 5):
+        office.file(f"{number}.efi", image(number))
+    for name in ("plain", "2", "3", "4", "5"):
+        office["ann"].does(f"submit {name}.efi --title 'image {name}'")
+    for name, number in (("rita", 1), ("raul", 1), ("rita", 2)):
+        office[name].does(f"review {number} yes --yes")
+    office["olga"].does("list-certificate certificate.der --yes")
+    office["olga"].does(f"revoke --digest {authenticode(image(3))} --yes", "proposal 1")
+    office["otto"].does("confirm 1 --yes")
+    office["olga"].does(f"revoke --digest {digest('dd')} --yes", "proposal 2")
+    return office
+
+
+def sentence(one: Asked) -> str:
+    """A pattern of what is due."""
+    text = QUESTIONS[one.question].get(one.sentence, "Propose it all the same?")
+    return re.sub(r"\\{\w+\\}", ".+", re.escape(text))
+
+
+def answers(office: Office, one: Asked, key: str, typed: str, status: int) -> None:
+    """A run that gets this answer ends so, and sends nothing."""
+    before = office.report()
+    ended, said = office[one.who].asked(one.line, typed)
+    where = f"{key} at the question of: {one.who} {one.line}"
+    if not re.search(sentence(one), said):
+        fail(f"{where}: it isn't asked: {said}")
+    expect((ended, office.report(), office[one.who].pending()), (status, before, []), where)
+    told = "interrupted" if key == "Ctrl-C" else "nothing was sent"
+    assert told in said, said
+
+
+@pytest.mark.long(60)
+def test_whatever_is_typed_but_a_whole_yes_sends_nothing(busy: Office) -> None:
+    for one in [*ASKED, *OWN]:
+        for key, (typed, status) in NO.items():
+            answers(busy, one, key, typed, status)
+        before = busy.report()
+        ended, said = busy[one.who].asked(one.line, one.yes)
+        expect((ended, busy[one.who].pending()), (0, []), f"{one.yes} at {one.line}: {said}")
+        assert busy.report() != before, said
+
+
+def test_each_question_is_typed_at() -> None:
+    named = {one.question for one in ASKED}
+    due = {(name, word) for name in named for word in QUESTIONS[name]
+           if word not in ("title", "button")}
+    expect({(one.question, one.sentence) for one in ASKED} | BY_PAGE, due, "the questions")
+    expect({one.question for one in [*ASKED, *OWN]}, set(QUESTIONS), "the kinds of questions")
