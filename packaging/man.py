@@ -1,7 +1,8 @@
 #!/usr/bin/env python3
-"""man.py PROGRAM DATE FOLDER: writes the manual pages desk.1 and desk-http.7 into the folder.
+"""man.py PROGRAM DATE FOLDER: writes the manual pages into the folder: desk.1, desk-http.7, and one
+for each of the other tools.
 
-Each text has one source: the program's help for subcommands, docs/FORMATS.md for formats and
+Each text has one source: a program's help for it and its subcommands, docs/FORMATS.md for formats and
 routes, docs/REFUSALS.md for refusals, packaging/README.md for the service and what stands around
 it, docs/AUDIT.md for audits, docs/INTEROPERATION.md for other tools. This script sets them in
 man(7), tables in tbl(1).
@@ -68,6 +69,14 @@ FILES = {
     "/var/lib/kovelamiru-publish/published": "What desk-publish published last.",
     "/var/lib/kovelamiru-standby/minutes.txt": "The minutes that desk-standby has fetched.",
 }
+TOOLS = {
+    "desk-publish": "publishes what a Secure Boot desk decided",
+    "desk-standby": "keeps a copy of a Secure Boot desk",
+    "kovelamiru-mirror": "mirrors what a Secure Boot desk publishes",
+}
+DEMO = """\
+With PROGRAM it is a desk of that program; with FOLDER it is made there, and the folder stays. Not for
+work: whoever can read the folder has the tokens."""
 EXAMPLES = """\
 One officer proposes to raise a generation of the level, and another one confirms it:
 
@@ -194,7 +203,8 @@ def desk_page(said, date):
         ("OTHER TOOLS", document("INTEROPERATION")),
         ("ENVIRONMENT", roff(ENVIRONMENT)),
         ("FILES", terms(FILES.items(), "I")),
-        ("SEE ALSO", ["desk-http(7), systemctl(1), runuser(1), nginx(8)"]),
+        ("SEE ALSO", ["desk-http(7), " + ", ".join(f"{name}(1)" for name in (*TOOLS, "desk-demo"))
+                      + ", systemctl(1), runuser(1), nginx(8)"]),
     ]
     about = "Secure Boot signing and revocation desk"
     return page("desk", 1, date, said.version, about, parts)
@@ -220,10 +230,49 @@ def http_page(said, date):
     )
 
 
+ROW = re.compile(r"(?m)^  (\S.*?)  +(\S.*)$")
+
+
+def helped(text):
+    """A help's own text: paragraphs, and rows behind two spaces, which are terms or are typed."""
+    found = []
+    for part in text.strip("\n").split("\n\n"):
+        if not part.startswith("  "):
+            found += [".PP"] + filled(" ".join(part.split()))
+        elif ROW.match(part):
+            found += terms(ROW.findall(re.sub(r"\n {6,}(?=\S)", " ", part)))
+        else:
+            found += example([row[2:] for row in part.split("\n")])
+    return found
+
+
+def tool_page(name, date, version):
+    """Of a tool in Python: its help, in which each option is one line."""
+    words = [f"{ROOT}/packaging/{name}", "--help"]
+    text = subprocess.run(words, check=True, stdout=subprocess.PIPE, text=True,
+                          env={**os.environ, "COLUMNS": "1000"}).stdout
+    usage, about, options, more = re.fullmatch(
+        r"usage: (.*?)\n\n(.*?)\npositional arguments:\n(.*?\n\n.*?\n)(\n.*|)", text, re.S).groups()
+    rows = ROW.findall(re.sub(r"\n {10,}(?=\S)", "   ", options))
+    return page(name, 1, date, version, TOOLS[name], [
+        ("SYNOPSIS", filled(usage)), ("DESCRIPTION", helped(about)), ("OPTIONS", terms(rows)),
+        *([("NOTES", helped(more))] if more.strip() else []), ("SEE ALSO", ["desk(1), ssh-keygen(1)"])])
+
+
+def demo_page(date, version):
+    parts = [("SYNOPSIS", ["\\fBdesk\\-demo\\fR [\\fIPROGRAM\\fR [\\fIFOLDER\\fR]]"]),
+             ("DESCRIPTION", roff(section("packaging/README.md", "A demo")) + roff(DEMO)),
+             ("SEE ALSO", ["desk(1)"])]
+    return page("desk-demo", 1, date, version, "a Secure Boot desk to look at in a browser", parts)
+
+
 def main():
     program, date, folder = sys.argv[1:]
     said = Help(program)
-    for name, text in (("desk.1", desk_page(said, date)), ("desk-http.7", http_page(said, date))):
+    pages = {"desk.1": desk_page(said, date), "desk-http.7": http_page(said, date),
+             "desk-demo.1": demo_page(date, said.version)}
+    pages.update({f"{name}.1": tool_page(name, date, said.version) for name in TOOLS})
+    for name, text in pages.items():
         with open(f"{folder}/{name}", "w", encoding="utf-8") as out:
             out.write(text)
 

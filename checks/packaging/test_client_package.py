@@ -11,7 +11,10 @@ from checks.packaging.conftest import Copy, Package, quiet
 from checks.support.tools import ran
 
 # What of python/ is no part of deskctl.
-OTHERS = ("publish", "reader.py", "standby.py", "shim.py", "wire", "__pycache__", "README.md")
+OTHERS = (
+    "publish", "mirror.py", "fetch.py", "reader.py", "standby.py", "shim.py", "wire", "__pycache__",
+    "README.md",
+)
 
 
 def test_it_is_the_same_bytes_wherever_it_is_made(

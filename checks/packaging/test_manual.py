@@ -11,7 +11,11 @@ from checks.packaging.conftest import NAME, Package, quiet
 from checks.support.tools import ROOT, ran
 from checks.support.wire import REFUSALS
 
-PAGES = ("man1/desk.1", "man7/desk-http.7", "man1/deskctl.1")
+TOOLS = ("desk-publish", "desk-standby", "kovelamiru-mirror")
+PAGES = (
+    "man1/desk.1", "man7/desk-http.7", "man1/deskctl.1", "man1/desk-demo.1",
+    *(f"man1/{name}.1" for name in TOOLS),
+)
 PARTS = (
     "THE SERVICE", "WHO MAY CONNECT", "BACKUP", "PUBLISHING", "AUDITS", "RUNBOOKS", "OTHER TOOLS",
     "EXIT STATUS",
@@ -65,6 +69,20 @@ def test_desk_1_has_each_subcommand_with_an_example_and_each_part(
     examples = "\n".join(re.findall(r"^ *Example:\n.*\n?.*", said, re.M))
     assert [one for one in subcommands if not tells(examples, f"desk {one}")] == []
     assert re.search("both digests", said, re.I)
+
+
+@pytest.mark.needs("man")
+@pytest.mark.parametrize("name", TOOLS)
+def test_the_page_of_a_tool_has_each_option_and_all_that_its_help_says(
+    package: Package, name: str, room: Path
+) -> None:
+    said = shown(source(package, f"man1/{name}.1", room))
+    helped = ran(package.root / "usr/bin" / name, "--help").decode()
+    options = re.findall("(?m)^  (--[a-z-]+)", helped)
+    assert len(options) > 5 and [one for one in options if not tells(said, one)] == []
+    about = re.split("(?m)^(?:positional arguments|options|optional arguments):\n", helped)
+    words = re.findall("[A-Za-z]{4,}", " ".join([about[0].split("\n\n", 1)[1], about[-1]]))
+    assert [one for one in words if one not in said] == []
 
 
 @pytest.mark.needs("man")

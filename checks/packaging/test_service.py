@@ -19,8 +19,8 @@ from checks.support.tools import ROOT, end_with_parent, ran
 from checks.support.waits import until
 
 UNITS = "usr/lib/systemd/system"
-SERVICES = ("kovelamiru-desk", "kovelamiru-publish", "kovelamiru-standby")
-USERS = (NAME, "kovelamiru-publish")
+SERVICES = ("kovelamiru-desk", "kovelamiru-mirror", "kovelamiru-publish", "kovelamiru-standby")
+USERS = (NAME, "kovelamiru-mirror", "kovelamiru-publish")
 CAPABILITY = "net_bind_service"
 
 
@@ -39,7 +39,7 @@ def test_the_service_is_the_program_as_its_user_with_one_capability(package: Pac
 
 
 @pytest.mark.if_there("systemd-sysusers")
-def test_both_users_are_made_with_their_folders(package: Package, room: Path) -> None:
+def test_each_user_is_made_with_a_folder(package: Package, room: Path) -> None:
     shutil.copytree(package.root / "usr/lib/sysusers.d", room / "usr/lib/sysusers.d")
     (room / "etc").mkdir()
     ran("systemd-sysusers", f"--root={room}", f"{NAME}.conf")

@@ -232,7 +232,8 @@ def test_a_removal_stops_all_and_names_the_sites_of_nginx(machine: Machine) -> N
     sites.mkdir(parents=True)
     (sites / "desk").write_bytes((ROOT / "packaging" / "nginx.conf").read_bytes())
     (sites / "other").write_text("server { }\n")
-    units = f"kovelamiru-publish.timer kovelamiru-publish.service {FOLLOWS} {DESK}"
+    mirrors = "kovelamiru-mirror.timer kovelamiru-mirror.service"
+    units = f"kovelamiru-publish.timer kovelamiru-publish.service {FOLLOWS} {mirrors} {DESK}"
     named = f"so take them out: {sites}/desk \n"
     machine.ends(("prerm", "remove"), f"stop {units}", says=named)
 
@@ -246,7 +247,7 @@ def test_a_purge_takes_the_token_and_the_links_of_units_and_no_desk(machine: Mac
     machine.ends(UPGRADE)
     for link in (
         f"multi-user.target.wants/{DESK}", "timers.target.wants/kovelamiru-publish.timer",
-        f"timers.target.wants/{STANDBY}",
+        f"timers.target.wants/{STANDBY}", "timers.target.wants/kovelamiru-mirror.timer",
     ):
         path = machine.own / "etc/systemd/system" / link
         path.parent.mkdir(parents=True, exist_ok=True)

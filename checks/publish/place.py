@@ -126,8 +126,9 @@ class Place:
             fail(f"{shown}\n    wanted {status} {says}\n    came   {done.returncode} {said}")
         return said
 
-    def changed(self, name: str, *edits: tuple[str, str, str]) -> Path:
-        """A desk-publish of its own, whose modules have these edits: module, pattern, text."""
+    def changed(self, name: str, *edits: tuple[str, str, str], tool: Path = PUBLISH) -> Path:
+        """A desk-publish of its own, or another tool, whose modules have these edits: module,
+        pattern, text."""
         folder = self.room / name
         folder.mkdir()
         shutil.copytree(ROOT / "python" / "kovelamiru", folder / "kovelamiru")
@@ -137,7 +138,7 @@ class Place:
             made, count = re.subn(pattern, text, path.read_text(), flags=re.M)
             expect(count, 1, f"places for {pattern} in {module}")
             path.write_text(made)
-        return Path(shutil.copy(PUBLISH, folder / "desk-publish"))
+        return Path(shutil.copy(tool, folder / tool.name))
 
     def script(self, name: str, text: str) -> str:
         """The path of a program in sh, whose $0 is in this folder."""

@@ -15,10 +15,9 @@ from typing import Any
 from ..faults import DONE, broken, wrong
 from ..reader import add_reader, ended, has_reader
 from .desk import from_file, from_url
-from .files import synced
-from .folder import current, filled, hidden, named, published, swept
-from .page import day
+from .folder import current, filled, hidden, linked, named, published, swept
 from .rules import judged
+from .sums import day
 from .witness import witnessed
 
 ABOUT = """\
@@ -138,18 +137,6 @@ def publish(words: argparse.Namespace, link: str) -> str:
     linked(link, whole)
     swept(link, words.keep)
     return f"calls {found.calls}: published in {whole}"
-
-
-def linked(link: str, whole: str) -> None:
-    """The new folder gets its name, and the link goes to it by one rename."""
-    if os.path.lexists(whole):
-        # Of a run that was killed within this second, before its link.
-        shutil.rmtree(whole)
-    os.rename(f"{link}.new", whole)
-    os.symlink(os.path.basename(whole), f"{link}.link")
-    synced(os.path.dirname(link))
-    os.rename(f"{link}.link", link)
-    synced(os.path.dirname(link))
 
 
 # The options but for those that say where the desk is, and who reads it.

@@ -2,7 +2,6 @@
 from __future__ import annotations
 
 import argparse
-import calendar
 import os
 import re
 import shutil
@@ -15,9 +14,10 @@ from ..shim import NAME as SHIM, difference
 from ..update import certificate_length, efi_time
 from .desk import LISTS, Found, audit_of, digest
 from .files import read, synced, write
-from .page import Before, Publication, day, dbx_json, firsts_of, index
+from .page import Before, Publication, dbx_json, firsts_of, index
 from .programs import SIGNING_SECONDS, audited, ran, refused, said_by, signature
 from .rules import db_follows, follows
+from .sums import NAME as SUMS, day, sums_of
 
 # What signatures are for, by their namespaces.
 PUBLISH, MINUTES = "kovelamiru-publish", "kovelamiru-checkpoint"
@@ -33,16 +33,11 @@ def unpublished(link: str, name: str, text: str) -> NoReturn:
 def published(link: str) -> Before:
     """What was published last: it is what the next one is judged by. Its own sums must be right."""
     at = os.path.realpath(link)
-    sums: dict[str, str] = {}
-    date = 0
-    for line in read(os.path.join(at, "SHA256SUMS")).decode("ascii", "replace").splitlines():
-        if re.fullmatch(r"# date \d{4}-\d\d-\d\dT\d\d:\d\d:\d\dZ", line):
-            date = calendar.timegm(time.strptime(line[7:], "%Y-%m-%dT%H:%M:%SZ"))
-        elif not line.startswith("#"):
-            one = re.fullmatch(r"([0-9a-f]{64})  ([A-Za-z0-9][A-Za-z0-9._-]*)", line)
-            if not one:
-                unpublished(link, "SHA256SUMS", f"no sum is {line[:100]!r}")
-            sums[one[2]] = one[1]
+    try:
+        said = sums_of(read(os.path.join(at, SUMS)))
+    except Unreadable as fault:
+        unpublished(link, SUMS, str(fault))
+    sums, date = said.files, said.date
     names = {*sums, *LISTS, "audit.txt", "minutes.txt"}
     data = {name: read(os.path.join(at, name)) for name in names}
     of_db = audit_of(data.get(DB_AUDIT, b""))
@@ -82,7 +77,7 @@ def hidden(link: str) -> None:
 
 def swept(link: str, keep: int) -> None:
     """Takes away what a broken run left, and old folders."""
-    for left in (f"{link}.new", f"{link}.sign"):
+    for left in (f"{link}.new", f"{link}.sign", f"{link}.old"):
         if os.path.lexists(left):
             shutil.rmtree(left)
     if os.path.lexists(f"{link}.link"):
@@ -172,9 +167,9 @@ def filled(words: argparse.Namespace, link: str, whole: str, now: int, found: Fo
     files.update(pages(words, files, found, now, last))
     sums = f"# calls {found.calls}\n# date {day(now)}\n# folder {os.path.basename(whole)}\n"
     sums += "".join(f"{digest(data)}  {name}\n" for name, data in sorted(files.items()))
-    files["SHA256SUMS"] = sums.encode()
+    files[SUMS] = sums.encode()
     if words.key:
-        files["SHA256SUMS.sig"] = signature(words.key, PUBLISH, files["SHA256SUMS"])
+        files[f"{SUMS}.sig"] = signature(words.key, PUBLISH, files[SUMS])
     for name, data in files.items():
         write(os.path.join(new, name), data, 0o644)
     os.chmod(new, 0o755)
@@ -186,3 +181,15 @@ def filled(words: argparse.Namespace, link: str, whole: str, now: int, found: Fo
 def named(link: str, now: int, found: Found) -> str:
     """The folder of a publication."""
     return f"{link}.{time.strftime('%Y%m%dT%H%M%SZ', time.gmtime(now))}-calls-{found.calls}"
+
+
+def linked(link: str, whole: str) -> None:
+    """The new folder gets its name, and the link goes to it by one rename."""
+    if os.path.lexists(whole):
+        # Of a run that was killed within this second, before its link.
+        shutil.rmtree(whole)
+    os.rename(f"{link}.new", whole)
+    os.symlink(os.path.basename(whole), f"{link}.link")
+    synced(os.path.dirname(link))
+    os.rename(f"{link}.link", link)
+    synced(os.path.dirname(link))

@@ -10,7 +10,6 @@ from __future__ import annotations
 import base64
 import hashlib
 import json
-import time
 from dataclasses import dataclass
 from html import escape
 from typing import Optional, Sequence
@@ -20,6 +19,7 @@ from ..shim import without_body
 from ..siglists import guid
 from ..words import counted
 from .desk import Found, audit_of, entries, level_of
+from .sums import day
 
 # An entry of dbx by its kind and its digest.
 Entry = tuple[str, str]
@@ -87,10 +87,6 @@ class Publication:
     def held(self) -> bool:
         """Whether a change of db waits for consent."""
         return self.found.held is not None
-
-
-def day(date: int) -> str:
-    return time.strftime("%Y-%m-%dT%H:%M:%SZ", time.gmtime(date))
 
 
 # ---- for programs
