@@ -132,5 +132,7 @@ def test_a_barred_request_says_so_and_a_yes_on_it_asks(office: Office, makers: M
     said = types(office, "rita", "review 1 yes", 2)
     assert "It is barred today: its digest is revoked." in said and "nothing was sent" in said
     types(office, "rita", "review 1 yes --yes")
-    for name in ("raul", "ann"):
+    assert "is barred, its digest is revoked" in types(office, "raul", "watch --once")
+    types(office, "raul", "review 1 yes --yes")
+    for name in ("ann", "sid"):
         assert "is barred, its digest is revoked" in types(office, name, "watch --once")

@@ -69,22 +69,22 @@ def test_a_look_asks_for_what_is_new_alone(office: Office, between: Between) -> 
     """Where the desk says that nothing changed for that; of a submitter's image that waits also
     whether it is barred since."""
     ann, rita, sid = (office[name].at(between.url) for name in ("ann", "rita", "sid"))
-    changes, small = ["/me", "/changes"], ["/me", "/changes", "/waiting"]
+    changes, bars = ["/me", "/changes"], ["/level", "/dbx"]
+    small = [*changes, "/waiting"]
     for _ in range(2):
         ann.does("submit plain.efi --title 'seen'")
-    expect(paths(between, ann)[2:], ["/waiting", "/requests/from/3", "/level", "/dbx"], "the first")
+    expect(paths(between, ann), [*small, "/requests/from/3", *bars], "the first")
     for name in ("rita", "raul"):
         office[name].does("review 1 yes --yes")
     paths(between, sid, "request 1 of ann waits for its signed file: seen")
     expect(paths(between, sid), changes, "nothing changed")
     office["rita"].does("submit odd.efi --title 'more'")
-    expect(paths(between, sid), small, "something else changed")
+    expect(paths(between, sid), [*small, *bars], "something else changed")
     paths(between, rita, "request 2 of ann waits for your review: seen")
     expect(paths(between, rita), changes, "nothing changed for a reviewer")
     yes = "your request 1 is approved (raul yes, rita yes): seen"
-    barring = ["/requests/from/3", "/level", "/dbx"]
-    expect(paths(between, ann, yes), [*small, *barring], "a request that changed")
-    expect(paths(between, ann), [*small, *barring], "nothing changed for a submitter")
+    expect(paths(between, ann, yes), [*small, "/requests/from/3", *bars], "a request that changed")
+    expect(paths(between, ann), [*small, "/requests/from/3", *bars], "nothing of hers changed")
     ann.does("withdraw 1 --yes")
     ann.does("withdraw 2 --yes")
     lines = ("your request 1 is withdrawn (raul yes, rita yes): seen",

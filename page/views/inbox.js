@@ -4,7 +4,7 @@
 import { read } from './act.js';
 import { fill, focusHeading, h, heading, p, quiet } from './dom.js';
 import { named } from './impact.js';
-import { badge, proposalLink, requestLink } from './marks.js';
+import { badge, barredBadge, proposalLink, requestLink } from './marks.js';
 import { paged } from './table.js';
 import { ownProposals, times } from '../desk/proposed.js';
 import { me, withYou } from '../desk/session.js';
@@ -133,12 +133,11 @@ function requestTable(caption, empty, beside, own) {
         row: (/** @type {Request} */ request) => {
             const { number, title, submitter, state, votes } = request;
             const isBarred = beside.now !== null && barredBy(beside.now, request) !== null;
-            const chip = isBarred ? h('span', { class: 'badge rejected' }, 'Barred today') : null;
             const names = votes.map(({ reviewer }) => reviewer).join(', ');
             const by = names === '' ? '' : `, by ${names}`;
             return [
                 ['number', number],
-                ['title', requestLink(number, title), ' ', chip],
+                ['title', requestLink(number, title), ' ', isBarred ? barredBadge() : null],
                 own ? badge(state) : ['from', withYou(submitter)],
                 `${voteWords(votes, state)}${by}`,
             ];

@@ -6,6 +6,9 @@ import { stateName } from '../formats/words.js';
 /** @param {string} state */
 export const badge = (state) => h('span', { class: `badge ${state}` }, stateName(state));
 
+// Beside a request that goes on, whose image is barred.
+export const barredBadge = () => h('span', { class: 'badge rejected' }, 'Barred today');
+
 /** @param {number} number @param {import('./dom.js').Child} [text] */
 export const requestLink = (number, text = `request ${number}`) => (
     link(`#/requests/${Number(number)}`, text)

@@ -2,11 +2,12 @@
 
 import { read } from './act.js';
 import { field, h, heading, quiet } from './dom.js';
-import { badge, requestLink } from './marks.js';
+import { badge, barredBadge, requestLink } from './marks.js';
 import { choices, paged } from './table.js';
 import { listed } from '../desk/lists.js';
 import { requestMatches } from '../desk/search.js';
 import { me, withYou } from '../desk/session.js';
+import { barredBy, standing } from '../desk/standing.js';
 import { wire } from '../formats/wire.js';
 import { counted, size, stateChoices, stateCounts, voteWords } from '../formats/words.js';
 
@@ -37,8 +38,26 @@ export function requestsView(place) {
     });
 }
 
+// What says that an image is barred today, once it is known; it is asked for at the first request
+// that goes on.
+function barring() {
+    /** @type {ReturnType<typeof standing> | null} */
+    let now = null;
+    return (/** @type {Request} */ request) => {
+        const place = h('span', {});
+        if (request.state !== 'open' && request.state !== 'approved') return place;
+        now ??= standing();
+        now.then((answer) => {
+            const isBarred = answer.kind === 'value' && barredBy(answer.value, request) !== null;
+            if (isBarred) place.append(' ', barredBadge());
+        });
+        return place;
+    };
+}
+
 /** @param {() => boolean} none whether there is no request at all */
 function queueTable(none) {
+    const barred = barring();
     return paged({
         caption: 'Requests, oldest first',
         kind: 'wide queue',
@@ -49,7 +68,7 @@ function queueTable(none) {
         turned: (from) => (me.queue.from = from),
         row: (/** @type {Request} */ request) => [
             ['number', request.number],
-            ['title', requestLink(request.number, request.title)],
+            ['title', requestLink(request.number, request.title), barred(request)],
             ['from', withYou(request.submitter)],
             badge(request.state),
             ['from', voteWords(request.votes, request.state)],

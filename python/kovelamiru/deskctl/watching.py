@@ -170,8 +170,8 @@ def look(run: Run, me: Me, memory: Memory) -> tuple[list[Event], list[Request], 
     if me.role in ("submitter", "reviewer"):
         own, last = own_of(run, me, memory, waits)
         events += [event for one in own for event in memory.changed(me, one)]
-        if waits:
-            events += barred(me, waits, revoked_of(run.desk))
+    if waits:
+        events += barred(me, waits, revoked_of(run.desk))
     memory.told &= {event.name() for event in events}
     new = [one for one in events if one.kind == "changed" or one.name() not in memory.told]
     return new, own, last
