@@ -6,7 +6,6 @@ from pathlib import Path
 from typing import Iterator
 
 import pytest
-from selenium.webdriver.common.action_chains import ActionChains
 from selenium.webdriver.common.keys import Keys
 
 from checks.page.looked import looked
@@ -86,7 +85,7 @@ class Keyboard:
 
     def tab_to(self, text: str, most: int = 60) -> None:
         for _ in range(most):
-            self.types(Keys.TAB)
+            self.browser.types(Keys.TAB)
             at = self.focused()
             if at["tag"] not in ("BODY", "MAIN") and at["outline"] != "solid 3px":
                 fail(f"the focus isn't seen at {at}")
@@ -94,34 +93,29 @@ class Keyboard:
                 return
         fail(f"no way by keyboard to “{text}”")
 
-    def types(self, *keys: str) -> None:
-        # (to whatever has the focus; an element's own keys would be refused by a field for files)
-        chain = ActionChains(self.browser.driver)  # type: ignore[no-untyped-call]
-        chain.send_keys(*keys).perform()  # type: ignore[no-untyped-call]
-
 
 def test_a_vote_is_given_by_keyboard_alone(browser: Browser, site: Site) -> None:
     """raul signs in, opens a request, votes no, is asked back, leaves it, and goes on."""
     number = site.submits(unsigned(106), "read by keyboard")
     browser.open()
     keys = Keyboard(browser)
-    keys.types(token("raul"), Keys.ENTER)
+    browser.types(token("raul"), Keys.ENTER)
     browser.sees("read by keyboard")
     expect(keys.focused()["tag"], "H1", "where the focus is after signing in")
     keys.tab_to("read by keyboard")
-    keys.types(Keys.ENTER)
+    browser.types(Keys.ENTER)
     browser.sees(f"Request {number}", "Your vote")
     keys.tab_to("Note (if you like)")
-    keys.types("seen by keyboard alone")
+    browser.types("seen by keyboard alone")
     keys.tab_to("Vote no")
-    keys.types(Keys.ENTER)
+    browser.types(Keys.ENTER)
     browser.asks(f"Reject request {number}?")
-    keys.types(Keys.ESCAPE)
+    browser.types(Keys.ESCAPE)
     browser.asks_no_more()
     assert keys.focused()["text"].startswith("Vote no"), keys.focused()
-    keys.types(Keys.ENTER)
+    browser.types(Keys.ENTER)
     browser.asks(f"Reject request {number}?")
     keys.tab_to("Vote no")
-    keys.types(Keys.ENTER)
+    browser.types(Keys.ENTER)
     browser.sees("Your vote of no is in.")
     expect(site.shows("rita", f"/requests/{number}")["state"], "rejected", "at the desk")

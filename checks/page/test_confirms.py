@@ -2,6 +2,8 @@
 or can't be compared."""
 from __future__ import annotations
 
+from selenium.webdriver.common.keys import Keys
+
 from checks.page.site import Site, unsigned
 from checks.support.browser import Browser
 from checks.support.messages import token
@@ -56,3 +58,24 @@ def test_no_confirm_is_offered_or_sent_where_what_is_named_cant_be_compared(
     browser.press("Confirm for good")
     browser.sees("Not confirmed.")
     expect(state(site, number), "open", "the proposal")
+
+
+def test_enter_confirms_nothing_and_ones_own_proposal_has_no_confirm(
+    browser: Browser, site: Site
+) -> None:
+    number = site.proposes("8" * 64)
+    browser.sign_in(token("olga"))
+    browser.go(f"proposals/{number}")
+    browser.press("Confirm…")
+    question = f"Confirm proposal {number} for good?"
+    browser.asks(question)
+    browser.types(Keys.ENTER)
+    browser.asks(question)
+    # The first stop leaves it.
+    browser.types(Keys.TAB, Keys.ENTER)
+    browser.asks_no_more()
+    expect(state(site, number), "open", "the proposal")
+    browser.sign_in(token("otto"))
+    browser.go(f"proposals/{number}")
+    browser.sees("You proposed it")
+    assert "Confirm…" not in browser.texts("button")

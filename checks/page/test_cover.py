@@ -2,7 +2,6 @@
 where it was left, for its own person alone."""
 from __future__ import annotations
 
-from selenium.webdriver.common.action_chains import ActionChains
 from selenium.webdriver.common.keys import Keys
 
 from checks.page.looked import looked
@@ -27,11 +26,6 @@ def later(browser: Browser, minutes: float) -> None:
     browser.module("desk/idle.js", text)
 
 
-def types(browser: Browser, *keys: str) -> None:
-    chain = ActionChains(browser.driver)  # type: ignore[no-untyped-call]
-    chain.send_keys(*keys).perform()  # type: ignore[no-untyped-call]
-
-
 def test_a_page_that_is_left_goes_on_with_its_persons_token_alone(
     browser: Browser, site: Site
 ) -> None:
@@ -44,8 +38,8 @@ def test_a_page_that_is_left_goes_on_with_its_persons_token_alone(
     later(browser, 31)
     browser.sees(COVERED)
     looked(browser, "the cover")
-    types(browser, Keys.ESCAPE)
-    types(browser, Keys.ESCAPE)
+    browser.types(Keys.ESCAPE)
+    browser.types(Keys.ESCAPE)
     browser.sees(COVERED)
     expect(browser.module("desk/api.js", ASKED)["kind"], "held", "what is asked meanwhile")
     for given, told in (
@@ -71,14 +65,14 @@ def test_a_key_within_the_last_minute_keeps_the_page_open(browser: Browser, site
     later(browser, 29.5)
     browser.sees(SOON)
     looked(browser, "the warning")
-    types(browser, Keys.ARROW_DOWN)
+    browser.types(Keys.ARROW_DOWN)
     until(10, "the warning goes", lambda: SOON not in browser.text(), browser.text)
     later(browser, 28)
     expect(browser.module("desk/idle.js", "module.idle()"), "here", "after 28 minutes more")
-    later(browser, 3)
-    browser.sees(COVERED)
     # A key behind its time doesn't count, and a sign-out leaves nothing.
-    types(browser, Keys.ARROW_DOWN)
+    later(browser, 3)
+    browser.types(Keys.ARROW_DOWN)
+    browser.sees(COVERED)
     browser.press("Sign out")
     browser.one("#token")
     expect(browser.all("dialog"), [], "what covers the sign-in")
@@ -86,7 +80,7 @@ def test_a_key_within_the_last_minute_keeps_the_page_open(browser: Browser, site
 
 def test_whom_a_certificate_signs_in_goes_on_by_a_press(browser: Browser, site: Site) -> None:
     site.relay.token = token("rita")
-    browser.open("/#/requests")
+    browser.driver.get(f"{site.base}/#/requests")
     browser.sees("rita, reviewer")
     later(browser, 31)
     browser.sees(COVERED)

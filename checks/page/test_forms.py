@@ -99,8 +99,7 @@ def test_whom_the_site_knows_by_a_certificate_signs_in_without_a_press(
 ) -> None:
     """The proxy knows rita, and sends her token. Once signed out she stays so."""
     site.relay.token = token("rita")
-    browser.open("/#/requests")
-    browser.one(".view h1")
+    browser.driver.get(f"{site.base}/#/requests")
     browser.sees("rita, reviewer", "Requests")
     browser.press("Sign out")
     browser.one("#token")

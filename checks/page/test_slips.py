@@ -1,10 +1,11 @@
-"""Slips of an officer: what would revoke nothing, or too much, is asked back about, with what was
-probably meant, and nothing is proposed."""
+"""Slips of tired people. What would revoke nothing, or too much, is asked back about, with what was
+probably meant; so is a yes that nobody means. Nothing is sent."""
 from __future__ import annotations
 
 from typing import Iterator
 
 import pytest
+from selenium.webdriver.common.keys import Keys
 
 from checks.page.site import CERTIFICATE, Site, unsigned
 from checks.support.browser import Browser
@@ -94,3 +95,45 @@ def test_a_slip_that_was_proposed_without_the_page_is_told_before_a_confirm(
     browser.press("Confirm…")
     browser.asks("Confirm proposal 1 for good?", "the SHA-256 of the whole file")
     browser.press("Leave it open")
+
+
+def test_a_yes_on_a_barred_image_and_after_another_file_is_asked_about(
+    browser: Browser, site: Site
+) -> None:
+    """Enter answers no question, and Escape leaves it."""
+    other = site.room / "other.efi"
+    other.write_bytes(unsigned(107))
+    number = site.submits(unsigned(106), "revoked meanwhile")
+    proposal = site.proposes(site.shows("olga", f"/requests/{number}")["digest"])
+    site.does("olga", f"/proposals/{proposal}/confirm", b"")
+    browser.sign_in(token("rita"))
+    browser.go(f"requests/{number}")
+    browser.sees("Barred today: its digest is revoked.")
+    browser.choose("Compare a file with this request", other)
+    browser.sees("Another file.")
+    browser.press("Vote yes")
+    asked = (f"Vote yes on request {number}?", "It is barred today: its digest is revoked.",
+             "The file that you looked at last")
+    browser.asks(*asked)
+    browser.types(Keys.ENTER)
+    browser.asks(*asked)
+    browser.types(Keys.ESCAPE)
+    browser.asks_no_more()
+    expect(site.shows("rita", f"/requests/{number}")["votes"], [], "the votes behind a slip")
+
+
+def test_the_submitted_file_is_told_before_it_is_returned_and_refused(
+    browser: Browser, site: Site
+) -> None:
+    path = site.room / "unsigned.efi"
+    path.write_bytes(unsigned(108))
+    number = site.submits(path.read_bytes(), "not signed yet")
+    for name in ("rita", "raul"):
+        site.reviews(name, number)
+    browser.sign_in(token("sid"))
+    browser.go(f"requests/{number}")
+    browser.choose("Signed file", path)
+    browser.sees("This is the very file that was submitted.")
+    browser.press("Return it")
+    browser.sees("Refused: NotListed (29).")
+    expect(site.shows("sid", f"/requests/{number}")["state"], "approved", "the request")

@@ -12,6 +12,7 @@ from selenium.common.exceptions import (
     StaleElementReferenceException,
 )
 from selenium.webdriver.chrome.service import Service
+from selenium.webdriver.common.action_chains import ActionChains
 from selenium.webdriver.common.keys import Keys
 from selenium.webdriver.remote.webelement import WebElement
 
@@ -248,6 +249,12 @@ class Browser:
 
     def has_sum(self, path: Path) -> None:
         until(30, f"the SHA-256 of {path}", lambda: "SHA-256" in self.script(SUMS))
+
+    def types(self, *keys: str) -> None:
+        """To whatever has the focus; an element's own keys would be refused by a field for
+        files."""
+        chain = ActionChains(self.driver)  # type: ignore[no-untyped-call]
+        chain.send_keys(*keys).perform()  # type: ignore[no-untyped-call]
 
     def module(self, name: str, text: str) -> Any:
         """What an expression over a module of the page, `module`, gives there."""
