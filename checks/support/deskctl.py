@@ -7,6 +7,7 @@ import pty
 import resource
 import shlex
 import shutil
+import signal
 import subprocess
 from pathlib import Path
 from typing import Any, Callable, NamedTuple, Sequence
@@ -131,6 +132,8 @@ class Person:
         child, master = pty.fork()
         if child == 0:
             end_with_parent()
+            # (a shell's job in the background ignores it)
+            signal.signal(signal.SIGINT, signal.SIG_DFL)
             os.chdir(self.room)
             words = [*self.command, *shlex.split(line)]
             sizes = {"LINES": str(size[0]), "COLUMNS": str(size[1])}
