@@ -54,8 +54,8 @@ for (const one of document.querySelectorAll('body, body *')) {
 return [pairs, low];
 """
 
-# What is wrong with the structure: ids that come twice, references to nothing, no heading, targets
-# that are too small, a page that is too wide, texts that are cut off.
+# What is wrong with the structure: ids that come twice, references to nothing, no heading, rows of
+# tables without a header, targets that are too small, a page that is too wide, texts cut off.
 STRUCTURE = r"""
 const wrong = [];
 const all = (selector) => [...document.querySelectorAll(selector)].filter(
@@ -80,6 +80,10 @@ for (const one of all('button, input, textarea, summary, nav a, .button')) {
     const size = `${Math.round(width)} by ${Math.round(height)}`;
     const small = !one.classList.contains('skip') && (height < 24 || width < 24);
     if (small) wrong.push(`a target of ${size}: ${one.textContent}`);
+}
+for (const row of all('tbody tr')) {
+    const heads = row.querySelectorAll('[role="rowheader"]').length;
+    if (heads !== 1) wrong.push(`${heads} headers of the row ${row.textContent.slice(0, 40)}`);
 }
 if (root.scrollWidth > root.clientWidth) wrong.push('wider than the window');
 for (const one of all('main *')) {

@@ -6,11 +6,14 @@ import { grouped } from '../formats/words.js';
 
 /** @typedef {import('./dom.js').Child} Child */
 
-// A table; a cell that is an array has a class first. `kind` has the table's classes: a `wide` one
-// becomes cards where there is no room.
+// A table; a cell that is an array has a class first. What heads a row is its title, or else its
+// first cell. `kind` has the table's classes: a `wide` one becomes cards where there is no room.
 /** @param {{ caption: string, head: string[], kind?: string }} form @param {Child[][]} rows */
 export function table({ caption, head, kind = 'wide' }, rows) {
-    const body = rows.map((row) => h('tr', {}, row.map((cell, at) => cellOf(cell, head[at]))));
+    const body = rows.map((row) => {
+        const first = Math.max(0, row.findIndex((one) => Array.isArray(one) && one[0] === 'title'));
+        return h('tr', {}, row.map((cell, at) => cellOf(cell, head[at], at === first)));
+    });
     return h(
         'table',
         { class: kind },
@@ -20,10 +23,11 @@ export function table({ caption, head, kind = 'wide' }, rows) {
     );
 }
 
-/** @param {Child} cell @param {string} label */
-function cellOf(cell, label) {
+/** @param {Child} cell @param {string} label @param {boolean} isHead */
+function cellOf(cell, label, isHead) {
     const [name, ...content] = Array.isArray(cell) ? cell : ['', cell];
-    return h('td', { class: name || null, 'data-label': label }, ...content);
+    const role = isHead ? 'rowheader' : null;
+    return h('td', { class: name || null, role, 'data-label': label }, ...content);
 }
 
 /**
