@@ -1,5 +1,5 @@
-"""The sites of packaging/ are whole: nginx takes each, alone or beside the others, and says nothing;
-and what they pack."""
+"""The sites of packaging/ are whole: nginx takes each, alone or beside the others, and says
+nothing; and what they pack."""
 from __future__ import annotations
 
 import subprocess
