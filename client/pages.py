@@ -98,6 +98,10 @@ shows as `expect`: the SHA-256 of the first line that it prints with `--json`. `
 the count that is expected. If both are given, and nothing is doubtful, it asks nothing; if one
 isn't so, it ends with status 2.
 
+Several requests that are reviewed at once, or the files of a folder that are returned, are one
+question. Each call has its own key and precondition; what the desk refuses is told, and the others
+go on, with status 1. Where no answer comes the others aren't sent: the same command goes on.
+
 Without a terminal deskctl sends nothing where it would ask, unless `--yes` is given. A desk that
 is older than deskctl doesn't show what a proposal names: then `confirm` says so, and asks for the
 count of its entries."""
@@ -217,6 +221,10 @@ def kind_of(more: dict[str, Any]) -> str:
     return "FILES" if any(name in more.get("metavar", "") for name in ("FILE", "IMAGE")) else ""
 
 
+def is_many(more: dict[str, Any]) -> bool:
+    return more.get("nargs") in ("+", "*")
+
+
 def split(words: Sequence[Any]) -> tuple[list[Any], list[Any]]:
     """The options among words, and those that are named by their place."""
     options = [word for word in words if word[0][0].startswith("-")]
@@ -231,7 +239,7 @@ def bash() -> str:
         options, places = split(one.words)
         kinds = " ".join(f"'{kind_of(more)}'" for _, more in places) or "''"
         its = " ".join(name for named_, _ in options for name in named_)
-        many = "yes" if any("nargs" in more for _, more in places) else ""
+        many = "yes" if any(is_many(more) for _, more in places) else ""
         chosen = " ".join(f"['{named_[0]}']='{kind_of(more)}'" for named_, more in options
                           if "choices" in more)
         rows.append(f"        {one.name}) options='{its}' places=({kinds}) many={many}"
@@ -275,7 +283,7 @@ _deskctl() {{
         *)
             if [[ $word == -* ]]; then kind="$options {general} --help"
             elif [ -z "$command" ]; then kind='{names} help'
-            elif [ -n "$many" ]; then kind=${{places[0]}}
+            elif [ -n "$many" ] && [ "$at" -gt 0 ]; then kind=${{places[*]}}
             else kind=${{places[at]-}}
             fi
             ;;
@@ -302,7 +310,7 @@ def zsh_word(names: Sequence[str], more: dict[str, Any], place: int) -> str:
     action = "_files" if kind == "FILES" else f"({kind})" if kind not in ("", "-") else " "
     meta = more.get("metavar", "value").replace(":", "")
     if not names[0].startswith("-"):
-        return f"'{'*' if 'nargs' in more else place}:{meta}:{action}'"
+        return f"'{'*' if is_many(more) else place}:{meta}:{action}'"
     value = "" if kind == "-" else f":{meta}:{action}"
     times = "*" if more.get("action") == "append" else ""
     return " ".join(f"'{times}{name}[{does}]{value}'" for name in names)

@@ -141,8 +141,20 @@ def test_the_verdicts_that_came_are_shown_whatever_ends_the_run(
     ann = office["ann"].at(between.url)
     ann.ends(3, "verdict unsigned.efi signed.efi --retries 0", "502, the proxy",
              out=["unsigned.efi", "\tsigned.efi"])
-    ann.ends(2, "verdict unsigned.efi missing.efi", "No such file", out=["unsigned.efi"])
-    ann.ends(1, "verdict unsigned.efi leaf.der", "refused 2 NoMz", out=["unsigned.efi"])
+
+
+def test_several_verdicts_are_a_line_a_file_and_the_worst_status(office: Office) -> None:
+    """One that can't be judged stops none of the others."""
+    ann = office["ann"]
+    office["olga"].does("list-certificate leaf.der --yes")
+    rows = ["allowed\t", "\tsigned.efi"]
+    ann.ends(2, "verdict missing.efi signed.efi leaf.der", "missing.efi: No such file",
+             "refused 2 NoMz", "leaf.der is DER", out=["no verdict\tmissing.efi: No such", *rows])
+    ann.ends(1, "verdict leaf.der signed.efi", out=["no verdict\trefused 2 NoMz", *rows])
+    ann.ends(4, "verdict missing.efi unsigned.efi signed.efi", out=["not-listed\t", *rows])
+    ann.holds("nobody-has-this-token")
+    said = ann.run("verdict signed.efi signed.efi")
+    expect((said.status, said.err.count("refused 20")), (1, 1), "an unknown caller")
 
 
 def test_a_desk_that_doesnt_tell_who_calls_names_nobody(office: Office, between: Between) -> None:

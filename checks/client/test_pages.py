@@ -63,6 +63,7 @@ COMPLETED = [
     ("", [*COMMANDS, "help"]), ("con", ["confirm"]),
     ("proposals --state ", ["open", "confirmed", "dropped"]),
     ("requests --url x --state re", ["rejected"]), ("review 1 ", ["yes", "no"]),
+    ("review 1 2 n", ["no"]),
     ("requests --sort ", ["number", "newest", "title"]),
     ("proposals --sort n", ["number", "newest"]),
     ("get d", ["dbx", "db"]), ("import --d", ["--dry-run"]),

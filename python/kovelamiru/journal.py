@@ -27,17 +27,18 @@ def new_key() -> str:
 
 class Entry:
     """The keys of one command in the journal, locked while a run has them. They go out only after
-    they are on the disk, with the tag of what the command is about, if it is about something:
+    they are on the disk, with the tags of what its calls are about, if they are about something:
     each try names what was looked at before the first."""
     def __init__(self, path: str, note: Note):
         self.path = path
         self.file = self.locked(note)
         self.keys: list[str] = []
-        self.since = self.tag = ""
+        self.tags: list[str] = []
+        self.since = ""
         try:
             found = json.loads(os.pread(self.file, 1 << 20, 0))
             self.keys, self.since = [str(key) for key in found["keys"]], str(found["since"])
-            self.tag = str(found.get("tag", ""))
+            self.tags = [str(tag) for tag in found["tags"]]
         except (ValueError, KeyError, TypeError):
             # New, or cut before any key went out.
             pass
@@ -59,16 +60,15 @@ class Entry:
                 pass
             os.close(opened)
 
-    def write(self, what: str, where: str, count: int, tag: str) -> None:
-        """New keys and the tag, on the disk before any of them goes out."""
-        self.tag = tag
-        self.keys, self.since = [new_key()
-                                 for _ in range(count)], now().strftime("%Y-%m-%dT%H:%M:%SZ")
+    def write(self, what: str, where: str, tags: list[str]) -> None:
+        """A new key and a tag for each call, on the disk before any of them goes out."""
+        self.keys, self.tags = [new_key() for _ in tags], tags
+        self.since = now().strftime("%Y-%m-%dT%H:%M:%SZ")
         text = json.dumps({
             "desk": where,
             "keys": self.keys,
             "since": self.since,
-            "tag": tag,
+            "tags": tags,
             "what": what}).encode()
         os.ftruncate(self.file, 0)
         os.lseek(self.file, 0, os.SEEK_SET)
@@ -81,11 +81,11 @@ class Entry:
     def done(self) -> None:
         os.unlink(self.path)
 
-    def over(self) -> NoReturn:
+    def over(self, status: int = DONE) -> NoReturn:
         """Ends the run: its answers were shown. Killed between the two lines, and run again, it
         acts again."""
         os.unlink(self.path)
-        os._exit(DONE)
+        os._exit(status)
 
     def close(self) -> None:
         os.close(self.file)
@@ -96,11 +96,14 @@ class Journal:
     def __init__(self) -> None:
         self.folder = os.path.join(folder_of("XDG_STATE_HOME", ".local/state"), "deskctl")
 
-    def entry(self, identity: Any, note: Note) -> Entry:
+    def path(self, identity: Any) -> str:
         name = hashlib.sha256(json.dumps(identity).encode()).hexdigest()[:32]
+        return os.path.join(self.folder, name)
+
+    def entry(self, identity: Any, note: Note) -> Entry:
         try:
             os.makedirs(self.folder, mode=0o700, exist_ok=True)
-            return Entry(os.path.join(self.folder, name), note)
+            return Entry(self.path(identity), note)
         except OSError as error:
             wrong(f"no journal can be kept in {self.folder}: {reason(error)}",
                   "XDG_STATE_HOME names another folder for it.")

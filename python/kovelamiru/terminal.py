@@ -2,6 +2,7 @@
 from __future__ import annotations
 
 import os
+import re
 import shutil
 import signal
 import subprocess
@@ -11,6 +12,10 @@ from typing import Optional, Sequence, TextIO
 
 from .faults import wrong
 from .words import brief, cut, printable
+
+
+# What `deskctl token` makes.
+TOKEN = re.compile(r"desk_[A-Za-z0-9_-]{43}")
 
 
 def widths_of(cells: Sequence[Sequence[str]]) -> list[int]:
@@ -51,6 +56,11 @@ class Terminal:
     def warn(self, text: str) -> None:
         self.err.write(text + "\n")
         self.err.flush()
+
+    def stop(self, text: str, more: Sequence[str]) -> None:
+        """What ended a run, or a part of it, and lines below it that say what to do."""
+        for line in (f"deskctl: {text}", *(f"  {line}" for line in more)):
+            self.warn(TOKEN.sub("(a token)", printable(line)))
 
     def flush(self) -> None:
         self.out.flush()

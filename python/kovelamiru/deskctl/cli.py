@@ -12,7 +12,7 @@ from typing import Any, NoReturn, Optional, Sequence
 from .. import VERSION
 from ..faults import DONE, LOST, Refused, Stop, explained, reason, wrong
 from ..journal import Journal
-from ..terminal import Terminal
+from ..terminal import TOKEN, Terminal
 from ..words import printable
 from .arguments import DEFAULTS, OPTIONS, STATUSES, Command
 from .commands import COMMANDS
@@ -126,10 +126,6 @@ def parser_of(arguments: Sequence[str]) -> Parser:
     return main_parser
 
 
-# What `deskctl token` makes.
-TOKEN = re.compile(r"desk_[A-Za-z0-9_-]{43}")
-
-
 def words_of(arguments: Sequence[str]) -> tuple[Names, Command]:
     arguments = arguments or ["inbox"]
     if list(arguments) == ["help"]:
@@ -152,8 +148,7 @@ def told(terminal: Terminal, stop: Stop, command: Optional[Command]) -> None:
         explained(stop, {})
         if stop.number == 21 and command and command.who:
             stop.more.insert(0, f"`deskctl {command.name}` is for {command.who}.")
-    for line in [f"deskctl: {stop}", *(f"  {line}" for line in stop.more)]:
-        terminal.warn(TOKEN.sub("(a token)", printable(line)))
+    terminal.stop(str(stop), stop.more)
 
 
 def ran(arguments: Sequence[str], terminal: Terminal) -> int:

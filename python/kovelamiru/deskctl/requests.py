@@ -1,4 +1,4 @@
-"""The commands of requests: submit, requests, request, wait, review, withdraw, return."""
+"""The commands of requests: submit, requests, request, wait, withdraw."""
 from __future__ import annotations
 
 import hashlib
@@ -14,15 +14,13 @@ from ..faults import LOST, REFUSED, Lost, Stop, wrong
 from ..files import IMAGE_LIMIT, read_file
 from ..http import Call
 from ..pe import has_sbat
-from ..pkcs7 import signatures_of
-from ..questions import carried_question, plain_question, rule_words, yes_question
+from ..questions import plain_question, rule_words
 from ..search import request_matches
 from ..standing import barred_by, standing_of
-from ..words import desk_json, printable
-from .images import facts_of
+from ..words import printable
 from .listing import List, show
 from .run import OTHER_DESK, Replies, Run, act
-from .verdicts import body_causes, carried_words, verdict_causes
+from .verdicts import body_causes, verdict_causes
 
 ALL = List(
     "/requests", "submitter", request_matches,
@@ -111,9 +109,6 @@ def request(run: Run) -> None:
     run.terminal.rows(rows)
 
 
-OWN_REQUEST = "You submitted it yourself: the desk takes votes of other reviewers alone."
-
-
 def looked_at(run: Run, taken: bool) -> Optional[str]:
     """The tag of the request: the SHA-256 of its submitted file."""
     return None if taken else request_of(run.desk, run.words.number).file
@@ -130,86 +125,12 @@ def another_file(number: int) -> list[str]:
     return [f"Request {number} is another file now. {OTHER_DESK}"]
 
 
-def review_asks(run: Run, taken: bool) -> Optional[str]:
-    """Before a vote that the desk will refuse, as its caller's own request, before a yes on a
-    barred image, and before what the vote settles for good."""
-    if taken:
-        return None
-    one, me = request_of(run.desk, run.words.number), me_of(run.desk)
-    if me and one.submitter == me.name:
-        run.terminal.confirm([OWN_REQUEST], "Vote all the same? Type yes:")
-    elif run.words.vote == "no":
-        run.terminal.ask(plain_question("no", one.number))
-    elif asks := yes_question(one, standing_of(run.desk)):
-        lines = list(asks.values())
-        if "barred" in asks:
-            run.terminal.confirm(lines, "Vote yes all the same? Type yes:")
-        else:
-            run.terminal.ask(lines)
-    return one.file
-
-
-def review(run: Run) -> None:
-    number, note = run.words.number, ascii_text(run.words.note, "note", 0, LIMITS["note"])
-    body = desk_json({"note": note, "vote": run.words.vote}).encode()
-    call = Call("POST", f"/requests/{number}/review", body, (), "reviewed",
-                f"review {number} {run.words.vote} {note}".rstrip())
-
-    def show(replies: Replies) -> None:
-        state = printable(replies[0].get("state"))
-        run.terminal.say(f"request {number} reviewed: {state}")
-        run.terminal.note(f"{state}: {NEXT.get(state, '')}.")
-
-    act(run, [call], show, lambda taken: review_asks(run, taken),
-        {24: lambda _: state_of(run, number), 49: lambda _: another_file(number)})
-
-
 def withdraw(run: Run) -> None:
     number = run.words.number
     call = Call("POST", f"/requests/{number}/withdraw", b"", (), "withdrawn", f"withdraw {number}")
     act(run, [call], lambda _: run.terminal.say(f"request {number} withdrawn"),
         lambda taken: withdraw_asks(run, taken),
         {24: lambda _: state_of(run, number), 49: lambda _: another_file(number)})
-
-
-def differing(run: Run, number: int, path: str) -> list[str]:
-    one, facts = request_of(run.desk, number), facts_of(run, path)
-    return [
-        f"Reviewed: digest {one.digest}, signing {one.signing}.", f"{path}: digest {facts.digest}."]
-
-
-def return_asks(run: Run, taken: bool, data: bytes) -> Optional[str]:
-    """Before a file that carries a listed certificate which isn't its signer's, unless the image's
-    digest is listed."""
-    if taken:
-        return None
-    one, now = request_of(run.desk, run.words.number), standing_of(run.desk)
-    if not now.digests & {one.digest, one.signing}:
-        doubt = carried_question(signatures_of(data), now)
-        if doubt:
-            run.terminal.confirm([doubt], "Return it all the same? Type yes:")
-    return one.file
-
-
-def give_back(run: Run) -> None:
-    number, path = run.words.number, run.words.file
-    data = read_file(path, IMAGE_LIMIT, "an image has")
-    whole = hashlib.sha256(data).hexdigest()
-    call = Call("POST", f"/requests/{number}/return", data, (), "returned",
-                f"return {number} {path} ({whole})")
-
-    def show(replies: Replies) -> None:
-        run.terminal.say(f"request {number} signed")
-        run.terminal.say(f"returned {whole}")
-        run.terminal.note("The desk checked no signature: `osslsigncode verify` does, before.")
-
-    act(
-        run, [call], show, lambda taken: return_asks(run, taken, data), {
-            **body_causes(path, data), 24: lambda _: state_of(run, number),
-            27: lambda _: differing(run, number, path),
-            28: lambda _: verdict_causes(run, path, data),
-            29: lambda _: carried_words(run, path, data),
-            49: lambda _: another_file(number)})
 
 
 def hopeless(one: Request, wanted: str) -> None:

@@ -2,10 +2,10 @@
 from __future__ import annotations
 
 from dataclasses import dataclass, field
-from typing import Any, Callable, NoReturn, Optional, Sequence
+from typing import Any, Callable, NoReturn, Optional, Sequence, Union
 
 from ..desk import Desk
-from ..faults import Causes, Lost, Refused, Stop, explained
+from ..faults import DONE, REFUSED, Causes, Lost, Refused, Stop, explained
 from ..http import Answer, Call, not_a_desk
 from ..journal import Entry, Journal
 from ..terminal import Terminal
@@ -36,39 +36,71 @@ class Run:
 Replies = list[dict[str, Any]]
 # Why a number names something else than it did.
 OTHER_DESK = "This desk isn't the one that you looked at, or it lost its last calls."
-# Puts the questions before the first try, and returns the tag of what was looked at, if the command
-# is about one thing. It is told whether keys are taken up from a run without an answer.
-Asks = Callable[[bool], Optional[str]]
+# Puts the questions before the first try, and returns the tag of what was looked at, or one for
+# each call, if the command is about something. It is told whether keys are taken up from a run
+# without an answer.
+Asks = Callable[[bool], Union[None, str, Sequence[str]]]
+# Refusals of the caller, which each of the calls would get.
+CALLERS = (20, 21)
 
 
 def act(run: Run, calls: Sequence[Call], show: Callable[[Replies], None],
         asks: Optional[Asks] = None, causes: Optional[Causes] = None) -> NoReturn:
     """Makes each of the calls once, whatever becomes of this run, and each try about what was
-    looked at before the first.
-
-    The answers are shown before the journal lets go of the keys, and with them the run ends.
-    """
-    desk = run.desk
-    entry = run.journal.entry([str(desk.where), desk.caller, [call.identity() for call in calls]],
-                              run.terminal.note)
-    taken = len(entry.keys) == len(calls) and not run.words.new_key
-    try:
-        tag = begin(run, entry, taken, asks)
-        if not taken:
-            entry.write(calls[0].what, str(desk.where), len(calls), tag)
+    looked at before the first. The first refusal ends it."""
+    def exchange(entry: Entry, taken: bool) -> int:
         replies = exchange_all(run, calls, entry, taken, causes or {})
         if run.words.json:
             for reply in replies:
                 run.print_json(reply)
         else:
             show(replies)
+        return DONE
+
+    made(run, calls, asks, exchange)
+
+
+@dataclass(frozen=True)
+class One:
+    """A call that stands by itself: what it is about, in words, what shows its reply, and the
+    causes of its refusals."""
+
+    call: Call
+    name: str
+    show: Callable[[dict[str, Any]], None]
+    causes: Causes
+
+
+def act_each(run: Run, ones: Sequence[One], asks: Asks) -> NoReturn:
+    """The same of calls each of which stands by itself: a refusal of one of several is told, and
+    the others go on."""
+    made(run, [one.call for one in ones], asks,
+         lambda entry, taken: exchange_each(run, ones, entry, taken))
+
+
+def identity_of(run: Run, calls: Sequence[Call]) -> list[Any]:
+    """What the journal knows a command by."""
+    return [str(run.desk.where), run.desk.caller, [call.identity() for call in calls]]
+
+
+def made(run: Run, calls: Sequence[Call], asks: Optional[Asks],
+         exchange: Callable[[Entry, bool], int]) -> NoReturn:
+    """The answers are shown before the journal lets go of the keys, and with them the run ends."""
+    entry = run.journal.entry(identity_of(run, calls), run.terminal.note)
+    taken = len(entry.keys) == len(calls) and not run.words.new_key
+    try:
+        about = begin(run, entry, taken, asks)
+        if not taken:
+            tags = [about] * len(calls) if isinstance(about, str) else list(about)
+            entry.write(calls[0].what, str(run.desk.where), tags)
+        status = exchange(entry, taken)
         run.terminal.flush()
-        entry.over()
+        entry.over(status)
     finally:
         entry.close()
 
 
-def begin(run: Run, entry: Entry, taken: bool, asks: Optional[Asks]) -> str:
+def begin(run: Run, entry: Entry, taken: bool, asks: Optional[Asks]) -> Union[str, Sequence[str]]:
     """Says that keys are taken up, and puts the questions."""
     if taken:
         run.terminal.warn(
@@ -92,32 +124,54 @@ def replied(answer: Answer, call: Call) -> dict[str, Any]:
 
 def exchange_all(run: Run, calls: Sequence[Call], entry: Entry, taken: bool,
                  causes: Causes) -> Replies:
-    """The replies to calls under the keys of the entry. It goes where none of them can have
-    acted."""
+    """The replies to calls under the keys of the entry."""
     replies: Replies = []
-    for call, key in zip(calls, entry.keys):
+    for call, key, tag in zip(calls, entry.keys, entry.tags):
         try:
-            replies.append(replied(run.desk.ask(call.given(key, entry.tag)), call))
-        except Lost as lost:
-            if not (lost.sent or lost.tried or taken or replies):
-                entry.done()
-                raise
-            lost.more.append(
-                "Whether the desk took it isn't known. Run the same command again: it takes effect"
-                " once.")
-            raise
+            replies.append(replied(run.desk.ask(call.given(key, tag)), call))
         except Stop as stop:
             if isinstance(stop, Refused):
                 explained(stop, causes)
-            if replies:
-                stop.more.append(
-                    f"{len(replies)} of {len(calls)} parts are proposed; the same command goes on"
-                    " with the others.")
-            elif (taken or stop.tried) and not stop.settles():
-                stop.more.append(
-                    "Whether the desk took an earlier try isn't known. Run the same command again:"
-                    " it takes effect once.")
-            else:
-                entry.done()
+            stopped(entry, stop, taken, f"{len(replies)} of {len(calls)} parts are proposed"
+                    if replies else "")
             raise
     return replies
+
+
+def exchange_each(run: Run, ones: Sequence[One], entry: Entry, taken: bool) -> int:
+    """Shows each reply as it comes, and each refusal; the status of the worst."""
+    status = DONE
+    for at, (one, key, tag) in enumerate(zip(ones, entry.keys, entry.tags)):
+        try:
+            reply = replied(run.desk.ask(one.call.given(key, tag)), one.call)
+        except Stop as stop:
+            if isinstance(stop, Refused):
+                explained(stop, one.causes)
+                if len(ones) > 1 and stop.settles() and stop.number not in CALLERS:
+                    run.terminal.stop(f"{one.name}: {stop}", stop.more)
+                    status = REFUSED
+                    continue
+            if len(ones) > 1:
+                stop.more.insert(0, f"It stopped at {one.name}.")
+            stopped(entry, stop, taken, f"{at} of {len(ones)} have their answer" if at else "")
+            raise
+        if run.words.json:
+            run.print_json(reply)
+        else:
+            one.show(reply)
+    return status
+
+
+def stopped(entry: Entry, stop: Stop, taken: bool, answered: str) -> None:
+    """Says what is known of the calls of an entry that ends without all answers. It goes where none
+    of them can have acted."""
+    lost = isinstance(stop, Lost) and (stop.sent or stop.tried or taken or answered)
+    if answered:
+        stop.more.append(f"{answered}; the same command goes on with the others.")
+    if lost or (taken or stop.tried) and not answered and not stop.settles():
+        whose = "it" if lost else "an earlier try"
+        stop.more.append(
+            f"Whether the desk took {whose} isn't known. Run the same command again: it takes"
+            " effect once.")
+    elif not answered:
+        entry.done()

@@ -5,7 +5,9 @@ from ..described import LIMITS, WORDS
 from .arguments import Command, number_word, seconds_word, word
 from .facts import compare, facts
 from .listing import list_words
-from .requests import ALL, give_back, request, requests, review, submit, wait, withdraw
+from .requests import ALL, request, requests, submit, wait, withdraw
+from .returns import give_back
+from .reviews import review
 from .verdicts import verdict
 
 STATES = tuple(WORDS["requests"])
@@ -40,31 +42,37 @@ REQUESTS: tuple[Command, ...] = (
             ("Ends with status 1 if the request can't get that state any more, and prints the notes"
              " of those who voted no. A request that is signed was approved before."),
             "deskctl wait 1 --timeout 3600"),
-    Command("review", "Requests", "N yes|no [--note T]", "vote on a request of somebody else",
+    Command("review", "Requests", "N.. yes|no [--note T]", "vote on requests of somebody else",
             review,
-            (NUMBER,
+            (word("numbers", metavar="N", nargs="+", type=number_word, help="their numbers"),
              word("vote", choices=tuple(WORDS["votes"]), metavar="yes|no",
                   help="two of yes approve it, one no rejects it for good"),
              word("--note", metavar="T", default="",
                   help=f"at most {LIMITS['note']} characters of ASCII")),
             "reviewers",
             ("A yes on an image that is barred today needs --yes, or yes typed on a terminal. There"
-             " it asks before a no and before the yes that approves, too."),
+             " it asks before a no and before the yes that approves, too. Several are shown, and"
+             " asked about at once; what the desk refuses is told, and the others go on."),
             "deskctl review 1 yes --note 'built from the tag, SBAT unchanged'"),
     Command("withdraw", "Requests", "N", "take back a request of your own", withdraw, (NUMBER,),
             "submitters and reviewers", "On a terminal it asks first.", "deskctl withdraw 1"),
-    Command("return", "Requests", "N FILE", "hand in the signed file of an approved request",
-            give_back, (NUMBER, word("file", metavar="FILE", help="the signed image")), "signers",
+    Command("return", "Requests", "N FILE | FOLDER", "hand in signed files of approved requests",
+            give_back,
+            (word("number", metavar="N", nargs="?", type=number_word, help="the request's number"),
+             word("file", metavar="FILE|FOLDER",
+                  help="the signed image; or, without a number, of any requests")), "signers",
             ("The desk checks no signature: verify it before (EXAMPLES of deskctl(1) has how)."
              " Where a listed certificate is carried and no signature says that it is by a listed"
-             " one, yes has to be typed, or --yes given. A request is signed by this."),
+             " one, yes has to be typed, or --yes given. A request is signed by this. Without a"
+             " number each file goes to the approved request whose image it is, and it asks once."),
             "deskctl return 1 shimx64.signed.efi"),
     Command("verdict", "Requests", "FILE..", "ask whether the desk allows images", verdict,
             (word("files", metavar="FILE", nargs="+", help="images"),), "",
-            ("Ends with status 4 if one isn't allowed. `allowed` means that its digest, or a"
-             " certificate that it carries, is listed, and that nothing bars it. No signature is"
-             " checked: an image may carry a listed certificate that didn't sign it."
-             " osslsigncode verifies."), "deskctl verdict shimx64.efi grubx64.efi"),
+            ("Ends with status 4 if one isn't allowed, otherwise with the worst; a file that can't"
+             " be judged has a line, too. `allowed` means that its digest, or a certificate that it"
+             " carries, is listed, and that nothing bars it. No signature is checked: an image may"
+             " carry a listed certificate that didn't sign it. osslsigncode verifies."),
+            "deskctl verdict shimx64.efi grubx64.efi"),
     Command(
         "compare", "Requests", "N FILE", "say whether a file is the image of a request", compare,
         (NUMBER, word("file", metavar="FILE", help="the image at hand")), "",

@@ -4,7 +4,7 @@ from __future__ import annotations
 from typing import Any, Optional, Sequence
 
 from ..answers import said_number
-from ..faults import DONE, NOT_ALLOWED, Causes, Refused, explained
+from ..faults import DONE, NOT_ALLOWED, REFUSED, WORDS, Causes, Refused, Stop, explained
 from ..files import IMAGE_LIMIT, looks_like, read_file
 from ..http import Call
 from ..pkcs7 import issuer_names, signatures_of
@@ -12,7 +12,7 @@ from ..questions import carried_question, rule_words
 from ..standing import Standing, level_of, lows_of, standing_of
 from ..words import printable
 from .images import facts_of
-from .run import Run
+from .run import CALLERS, Run
 
 
 def body_causes(path: str, data: bytes) -> Causes:
@@ -89,22 +89,41 @@ def show_verdicts(run: Run, rows: Sequence[tuple[str, str, str]], told: Sequence
             "allowed: by its digest or a certificate that it carries; no signature was checked.")
 
 
+Rows = list[tuple[str, str, str]]
+
+
+def judge(run: Run, path: str, issuers: Issuers, rows: Rows, told: list[str]) -> None:
+    """Adds the row of a file, and what else is told of it."""
+    data = read_file(path, IMAGE_LIMIT, "an image has")
+    found = verdict_of(run, path, data)
+    rows.append((found["verdict"], rule_words(found), path))
+    if run.words.json:
+        run.print_json(found)
+    elif found["verdict"] == "not-listed" and issuers.words(data):
+        told.append(f"{printable(path)}: {ISSUER_LISTED}.")
+    elif found["verdict"] == "allowed":
+        told += issuers.doubts(path, data)
+
+
 def verdict(run: Run) -> int:
-    """Shows the verdicts that came, whatever ends the run."""
-    rows: list[tuple[str, str, str]] = []
-    issuers, told = Issuers(run), []
+    """A row a file, and the worst status. Of several files one that can't be judged has its row,
+    too; the verdicts that came are shown, whatever ends the run."""
+    rows: Rows = []
+    told: list[str] = []
+    issuers, statuses = Issuers(run), [DONE]
     try:
         for path in run.words.files:
-            data = read_file(path, IMAGE_LIMIT, "an image has")
-            found = verdict_of(run, path, data)
-            rows.append((found["verdict"], rule_words(found), path))
-            if run.words.json:
-                run.print_json(found)
-            elif found["verdict"] == "not-listed" and issuers.words(data):
-                told.append(f"{printable(path)}: {ISSUER_LISTED}.")
-            elif found["verdict"] == "allowed":
-                told += issuers.doubts(path, data)
+            try:
+                judge(run, path, issuers, rows, told)
+            except Stop as stop:
+                callers = isinstance(stop, Refused) and stop.number in CALLERS
+                if stop.status not in (REFUSED, WORDS) or callers or len(run.words.files) == 1:
+                    raise
+                rows.append(("no verdict", str(stop), path))
+                statuses.append(stop.status)
+                run.terminal.stop(str(stop), stop.more)
     finally:
         if rows and not run.words.json:
             show_verdicts(run, rows, told)
-    return DONE if all(row[0] == "allowed" for row in rows) else NOT_ALLOWED
+    others = any(row[0] not in ("allowed", "no verdict") for row in rows)
+    return NOT_ALLOWED if others else max(statuses)

@@ -1,0 +1,186 @@
+"""Several votes, and a folder of signed files, by one run: each call has its own key and its own
+precondition, what is refused is told, and each takes effect once."""
+from __future__ import annotations
+
+from typing import Any
+
+import pytest
+
+from checks.client.test_looks import CASES
+from checks.support.between import NO_ANSWER, Between, instead
+from checks.support.client_day import ODD, SIGNED
+from checks.support.deskctl import NO_TERMINAL, Office
+from checks.support.images import PLAIN, TABLE, authenticode, with_table
+from checks.support.messages import posted, said
+from checks.support.says import expect
+from checks.support.steps import named, vote
+
+JSON = "application/json"
+BARRED = PLAIN + bytes(8)
+POSTS: list[tuple[str, str, bytes, str]] = [
+    ("ann", "/requests", PLAIN, "linux 6.12.1-1 amd64"),
+    ("ann", "/requests", ODD, "linux 6.12.1-1 arm64"),
+    ("rita", "/requests", PLAIN, "rita's own"), ("ann", "/requests", BARRED, "a barred one"),
+    ("olga", "/dbx/digests", named(authenticode(BARRED)), ""),
+    ("otto", "/proposals/1/confirm", b"", ""),
+]
+AGAIN = "Run the same command again"
+
+
+def posts(office: Office, rows: list[tuple[str, str, bytes, str]]) -> None:
+    for number, (name, path, body, title) in enumerate(rows):
+        fields = [("Desk-Title", title)] if title else []
+        key = f"k{len(office.calls())}-{number}"
+        found = office.server.ask(posted(name, key, path, body, *fields))
+        expect(found[:12], b"HTTP/1.1 200", f"{name} posts to {path}")
+
+
+@pytest.fixture
+def filled(office: Office) -> Office:
+    posts(office, POSTS)
+    return office
+
+
+def votes(office: Office) -> dict[int, str]:
+    return {one["number"]: f"{one['state']} {len(one['votes'])}"
+            for one in office["olga"].json("requests")}
+
+
+def tags(between: Between) -> list[tuple[str, str]]:
+    """The path and the precondition of each command that passed."""
+    heads = [head.decode() for head in between.seen if b"\r\ndesk-key:" in head.lower()]
+    return [(head.split(" ")[1], head.lower().split("if-match: ")[1].split("\r\n")[0].strip('"'))
+            for head in heads]
+
+
+def test_several_votes_go_out_each_with_its_own_precondition(
+    filled: Office, between: Between
+) -> None:
+    files = {one["number"]: one["file"] for one in filled["olga"].json("requests")}
+    raul = filled["raul"].at(between.url)
+    raul.does("review 2 1 2 yes --note 'read both'", "request 2 reviewed: open\nrequest 1 rev",
+              err=["request 2 (open, linux 6.12.1-1 arm64), of ann, 0 of 2 yes", files[1]])
+    expect(tags(between), [(f"/requests/{at}/review", files[at]) for at in (2, 1)], "what went out")
+    expect(len(set(between.keys())), 2, "keys")
+    expect(votes(filled), {1: "open 1", 2: "open 1", 3: "open 0", 4: "open 0"}, "the votes")
+    filled.once(len(POSTS) + 2)
+
+
+def test_one_question_is_asked_for_all_of_them(filled: Office) -> None:
+    rita, raul, rosa = filled["rita"], filled["raul"], filled["rosa"]
+    raul.does("review 1 2 yes")
+    for answer, status in (("no", 2), ("yes", 0)):
+        ended, text = rita.asked("review 1 2 yes", answer)
+        assert ended == status and text.count("Type yes:") == 1, text
+        assert "Vote yes on these 2 requests?" in text and "! request 2: One reviewer" in text, text
+    expect(votes(filled), {1: "approved 2", 2: "approved 2", 3: "open 0", 4: "open 0"}, "the votes")
+    # A barred one, and one's own: a script says that it is meant.
+    filled.refuses("raul", "review 3 4 yes", "! request 4: It is barred today", NO_TERMINAL)
+    filled.refuses("rita", "review 3 4 no", "! request 3: You submitted it yourself", NO_TERMINAL)
+    filled.refuses("raul", "review 3 9 yes", "refused 23", "It was asked for request 9", status=1)
+    status, text = rosa.asked("review 3 4 no", "yes")
+    assert status == 0 and text.count("for good. The image") == 2, text
+    expect(votes(filled)[3], "rejected 1", "the votes")
+
+
+def test_what_is_refused_is_told_and_the_others_go_on(filled: Office) -> None:
+    rita = filled["rita"]
+    rita.does("review 1 yes")
+    said_ = rita.ends(1, "review 1 2 yes", "deskctl: request 1: refused 26 AlreadyReviewed")
+    expect(said_, "request 2 reviewed: open\n", "what is printed")
+    expect(rita.pending(), [], "the journal")
+    filled.refuses("sid", "review 2 4 no", "refused 21 NotYourRole", "is for reviewers",
+                   "It stopped at request 2.", status=1)
+    expect(len(filled["raul"].json_lines("review 3 4 no --yes")), 2, "replies as JSON")
+
+
+def test_a_lost_answer_keeps_the_keys_of_all_and_each_acts_once(
+    filled: Office, between: Between
+) -> None:
+    raul, line = filled["raul"].at(between.url), "review 1 2 3 yes --retries 0"
+    between.loses = [lambda request, ask: ask(request), NO_ANSWER]
+    said_ = raul.ends(3, line, "It stopped at request 2.", "1 of 3 have their answer", AGAIN)
+    expect(said_, "request 1 reviewed: open\n", "what is printed")
+    expect(len(raul.pending()), 1, "the journal")
+    raul.does("pending", "review 1 2 3 yes")
+    raul.does(line, "request 1 reviewed: open", "request 3 reviewed: open", err=["taking up"])
+    expect((len(set(between.keys())), len(between.keys())), (3, 5), "keys, tries")
+    filled.once(len(POSTS) + 3)
+
+
+def test_a_number_that_is_another_file_by_then_gets_no_vote(
+    filled: Office, between: Between
+) -> None:
+    raul = filled["raul"].at(between.url)
+    mismatch = instead(412, said({"name": "Mismatch", "refused": 49}), JSON)
+    between.loses = [mismatch]
+    raul.ends(1, "review 1 2 yes", "request 1: refused 49", "is another file now",
+              out=["request 2 reviewed"])
+    expect(votes(filled)[1], "open 0", "the votes")
+
+
+# ---- a folder of signed files
+
+
+@pytest.fixture
+def signing(filled: Office) -> Office:
+    """Requests 1 and 2 are approved; a folder has their files, and others."""
+    posts(filled, [(name, f"/requests/{number}/review", vote("yes"), "")
+                   for number in (1, 2) for name in ("raul", "rosa")])
+    folder = filled.desk.room / "signed"
+    folder.mkdir()
+    odd = with_table(ODD + bytes(3), SIGNED[len(PLAIN):])
+    for name, data in (("amd64.efi", SIGNED), ("arm64.efi", odd), ("log", b"text"),
+                       ("plain.efi", PLAIN), ("other.efi", CASES["an unsigned image"])):
+        (folder / name).write_bytes(data)
+    filled["olga"].does("list-certificate certificate.der --yes")
+    return filled
+
+
+LEFT_OUT = (
+    "! signed/log: left out: refused", "! signed/plain.efi: left out: it is no signed file",
+    "! signed/other.efi: left out: it is no signed file of an approved request",
+)
+DONE = ("request 1 signed", "request 2 signed")
+
+
+def test_each_file_of_a_folder_goes_to_the_request_of_its_image(signing: Office) -> None:
+    signing.refuses("sid", "return signed", "It carries a listed certificate", NO_TERMINAL)
+    status, text = signing["sid"].asked("return signed", "yes")
+    assert status == 0 and all(one in text for one in (*LEFT_OUT, *DONE)), text
+    assert "request 2: signed/arm64.efi, for linux 6.12.1-1 arm64" in text, text
+    assert text.count("Return 2 files so? Type yes:") == 1, text
+    signing.refuses("sid", "return signed --yes", "signed/amd64.efi: request 1 has it already.",
+                    "has no signed file of an approved request")
+    signing.refuses("sid", "return 1 signed", "is a folder")
+    signing.refuses("sid", "return missing", "No such file")
+
+
+def test_a_folder_whose_answer_was_lost_goes_on(signing: Office, between: Between) -> None:
+    """Though its first file's request is signed by now."""
+    before = len(signing.calls())
+    sid, line = signing["sid"].at(between.url), "return signed --yes --retries 0"
+    between.loses = [lambda request, ask: ask(request), NO_ANSWER]
+    sid.ends(3, line, "1 of 2 have their answer", AGAIN, out=DONE[:1])
+    sid.does(line, *DONE, err=["taking up the keys"])
+    expect((len(set(between.keys())), sid.pending()), (2, []), "keys, the journal")
+    signing.once(before + 2)
+
+
+@pytest.mark.parametrize("name, why", [
+    ("again.efi", "left out: another file is for request 1, too"),
+    ("", "left out: it is the image of requests 1, 3"),
+])
+def test_a_file_that_fits_two_ways_is_left_out(signing: Office, name: str, why: str) -> None:
+    if name:
+        (signing.desk.room / "signed" / name).write_bytes(with_table(PLAIN, TABLE))
+    else:
+        posts(signing, [(who, "/requests/3/review", vote("yes"), "") for who in ("raul", "rosa")])
+    status, text = signing["sid"].asked("return signed", "no")
+    assert status == 2 and why in text and (f"Return {2 if name else 1} file" in text), text
+
+
+def test_one_file_without_a_number_finds_its_request(signing: Office) -> None:
+    sid: Any = signing["sid"]
+    sid.does("return signed/amd64.efi --yes", DONE[0])
+    expect([row[3].split(" ")[:2] for row in signing.calls()][-1], ["return", "1"], "the minutes")

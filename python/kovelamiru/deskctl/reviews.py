@@ -1,0 +1,97 @@
+"""The command review, of one request or of several."""
+from __future__ import annotations
+
+from typing import Any, Optional, Sequence
+
+from ..answers import Request, me_of, request_of, titled
+from ..described import LIMITS
+from ..faults import Causes, Refused
+from ..http import Call
+from ..questions import plain_question, yes_question
+from ..standing import standing_of
+from ..waiting import yes_words
+from ..words import counted, desk_json, printable
+from .requests import NEXT, another_file, ascii_text, state_of
+from .run import One, Run, act_each
+
+OWN_REQUEST = "You submitted it yourself: the desk takes votes of other reviewers alone."
+
+
+def looked_at(run: Run, numbers: Sequence[int]) -> list[Request]:
+    """The requests; where one isn't there, nothing is sent."""
+    found = []
+    for number in numbers:
+        try:
+            found.append(request_of(run.desk, number))
+        except Refused as refused:
+            refused.more.insert(0, f"It was asked for request {number}. Nothing was sent.")
+            raise
+    return found
+
+
+def doubts_of(run: Run, requests: Sequence[Request]) -> tuple[bool, list[list[str]]]:
+    """Of each request what is asked before the vote: one that the desk will refuse, as its
+    caller's own, a yes on a barred image, and what the vote settles for good; and whether a script
+    has to say that it is meant."""
+    me, forced, found = me_of(run.desk), False, []
+    now = standing_of(run.desk) if run.words.vote == "yes" else None
+    for one in requests:
+        if me and one.submitter == me.name:
+            forced = True
+            found.append([OWN_REQUEST])
+        elif now is None:
+            found.append(plain_question("no", one.number))
+        else:
+            asks = yes_question(one, now)
+            forced = forced or "barred" in asks
+            found.append(list(asks.values()))
+    return forced, found
+
+
+def shown(run: Run, one: Request) -> None:
+    run.terminal.note(f"{printable(titled(one))}, of {printable(one.submitter)}, {yes_words(one)}")
+    run.terminal.note(f"  file        {one.file}")
+
+
+def review_asks(run: Run, numbers: Sequence[int]) -> list[str]:
+    """Shows several requests, and puts one question; the tag of each."""
+    found = looked_at(run, numbers)
+    forced, each = doubts_of(run, found)
+    doubts = each[0]
+    question = "Vote all the same? Type yes:" if forced else "Is that meant? Type yes:"
+    if len(found) > 1:
+        for one in found:
+            shown(run, one)
+        doubts = [f"request {one.number}: {line}" for one, lines in zip(found, each)
+                  for line in lines]
+        question = f"Vote {run.words.vote} on these {counted(len(found), 'request')}? Type yes:"
+    if forced:
+        run.terminal.confirm(doubts, question)
+    elif doubts:
+        run.terminal.ask(doubts, question)
+    return [one.file for one in found]
+
+
+def voted(run: Run, number: int, alone: bool, reply: dict[str, Any]) -> None:
+    state = printable(reply.get("state"))
+    run.terminal.say(f"request {number} reviewed: {state}")
+    if alone:
+        run.terminal.note(f"{state}: {NEXT.get(state, '')}.")
+
+
+def review(run: Run) -> None:
+    numbers = list(dict.fromkeys(run.words.numbers))
+    note = ascii_text(run.words.note, "note", 0, LIMITS["note"])
+    body = desk_json({"note": note, "vote": run.words.vote}).encode()
+    what = f"review {' '.join(map(str, numbers))} {run.words.vote} {note}".rstrip()
+
+    def one(number: int) -> One:
+        call = Call("POST", f"/requests/{number}/review", body, (), "reviewed", what)
+        causes: Causes = {24: lambda _: state_of(run, number), 49: lambda _: another_file(number)}
+        return One(call, f"request {number}",
+                   lambda reply: voted(run, number, len(numbers) == 1, reply), causes)
+
+    def asks(taken: bool) -> Optional[list[str]]:
+        return None if taken else review_asks(run, numbers)
+
+    act_each(run, list(map(one, numbers)), asks)
