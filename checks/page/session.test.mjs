@@ -11,7 +11,8 @@ test('a sign-in waits for all of page/wire/, says what doesn’t come, and tries
     globalThis.fetch = async (path) => {
         asked.push(path);
         const status = path.endsWith('/lists.json') && !isThere ? 404 : 200;
-        return { status, json: async () => ({ name: 'ann', role: 'reviewer' }) };
+        const json = async () => ({ name: 'ann', role: 'reviewer' });
+        return { status, json, text: async () => '{}' };
     };
     assert.deepEqual(await signIn('a-token-of-someone'), { kind: 'lost', status: 404 });
     assert.ok(!asked.includes('/me') && !me.known, `${asked}`);

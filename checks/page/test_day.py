@@ -192,7 +192,7 @@ class Day:
         self.browser.go("requests/1")
         self.browser.sees(
             f"Barred today: {low}",
-            "The desk allowed the returned file as it took it.",
+            "The desk allowed the returned file when it took it.",
             "below the level: barred", "neither listed nor revoked",
         )
         assert "unsigned" not in self.browser.one("main").text

@@ -113,7 +113,7 @@ def test_a_yes_on_a_barred_image_and_after_another_file_is_asked_about(
     browser.sees("Another file.")
     browser.press("Vote yes")
     asked = (f"Vote yes on request {number}?", "It is barred today: its digest is revoked.",
-             "The file that you looked at last")
+             "The file that you looked at last isn’t")
     browser.asks(*asked)
     browser.types(Keys.ENTER)
     browser.asks(*asked)

@@ -14,13 +14,10 @@ const OWN = {
     '': ['The proxy refused it, not the desk.', RETRY],
 };
 
-/** @param {string} text with a typewriter's apostrophes */
-const typeset = (text) => text.replaceAll('\'', '’');
-
 /** @param {{ name: string, at?: number }} answer */
 export function explained({ name, at }) {
     const row = wire.refusals.find((one) => one.name === name);
-    const words = row && [row.told ?? row.means, row.page ?? row.next ?? ''].map(typeset);
+    const words = row && [row.told ?? row.means, row.page ?? row.next ?? ''];
     const [why, todo] = words ?? OWN[name] ?? OWN[''];
     return { why: at === undefined ? why : `${why} Here it is ${at}.`, todo };
 }

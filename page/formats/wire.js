@@ -53,5 +53,6 @@ async function fetched(name) {
     const path = `/page/wire/${name}.json`;
     const response = await fetch(path, { redirect: 'error', referrerPolicy: 'no-referrer' });
     if (response.status !== 200) throw response.status;
-    return response.json();
+    // (its texts have a typewriter's apostrophes)
+    return JSON.parse((await response.text()).replaceAll('\'', '’'));
 }
