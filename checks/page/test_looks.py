@@ -26,7 +26,7 @@ IMAGES = {
 }
 ISSUER_LISTED = "Its signer’s issuer is listed; the desk compares what the image carries."
 LISTING, SIGNED_BY = "List a certificate or a digest", "An image that its key signed"
-UNREAD = "The image isn’t read yet: wait, or take it out."
+UNREAD = "The file isn’t read yet: wait, or take it out."
 DIGESTS = "Digests, one a line"
 DOUBTS = ("isn’t RSA", "It is a CA’s.", "doesn’t carry it", "is revoked")
 TBS = """
