@@ -12,7 +12,7 @@ from checks.support.images import digest
 from checks.support.messages import refused
 from checks.support.says import expect
 from checks.support.wire import wire
-from kovelamiru.search import request_matches
+from kovelamiru.search import proposal_matches, request_matches
 from kovelamiru.words import cut
 
 SEARCH: dict[str, Any] = wire("cases/search")
@@ -50,6 +50,11 @@ def asked(between: Between) -> list[str]:
     found = [head.split(b" ")[1].decode() for head in between.seen]
     between.seen.clear()
     return [path for path in found if path.startswith("/requests")]
+
+
+@pytest.mark.parametrize("text, due", SEARCH["proposals"])
+def test_a_search_takes_these_proposals(text: str, due: bool) -> None:
+    assert proposal_matches(SEARCH["proposal"], text) == due
 
 
 @pytest.mark.parametrize("text, due", SEARCH["cases"])

@@ -1,12 +1,24 @@
-// Which requests a search takes, by page/wire/cases/search.json.
+// Which requests and proposals a search takes, by page/wire/cases/search.json.
 import assert from 'node:assert/strict';
 import { test } from 'node:test';
 
 import { json } from './cases.mjs';
-import { requestMatches } from '../../page/desk/search.js';
+import { proposalMatches, requestMatches } from '../../page/desk/search.js';
 
-const { request, cases } = json('cases/search');
+const { request, cases, proposal, proposals } = json('cases/search');
 
 for (const [text, due] of cases) {
     test(`a search for "${text}"`, () => assert.equal(requestMatches(request, text), due));
 }
+
+for (const [text, due] of proposals) {
+    test(`a search for the proposal "${text}"`, () => (
+        assert.equal(proposalMatches(proposal, text), due)
+    ));
+}
+
+test('a search takes what a proposal names', () => {
+    const names = 'digest 8fe7a1b2.. of Shim 16.1-1 amd64, request 1, allowed today';
+    assert.ok(proposalMatches(proposal, 'shim 16', names));
+    assert.ok(!proposalMatches(proposal, 'grub', names));
+});

@@ -10,10 +10,11 @@ import { counted, grouped } from '../formats/words.js';
  * @typedef {import('./doubts.js').Known} Known
  * @typedef {import('../formats/revocations.js').Revocations} Revocations
  * @typedef {{ kind: string, path: string, body: Uint8Array, lines: string[],
+ *   named: import('./proposals.js').Named,
  *   doubts: import('./doubts.js').Doubt[], asksStamp: boolean, raises: boolean,
  *   fault: string }} Look
- * `lines` is what is in it, `asksStamp` whether a stamp goes beside it, `fault` why it can't be
- * imported
+ * `named` is what a proposal of it would name that isn't reached yet, `lines` what is in it,
+ * `asksStamp` whether a stamp goes beside it, `fault` why it can't be imported
  */
 
 /** @type {Record<string, string>} */
@@ -55,6 +56,7 @@ export async function look(bytes, known) {
         path,
         body,
         lines: [...found.notes, ...lines, ...losses(found)],
+        named: { ...found, components: higher(found.components, known.now.level) },
         doubts,
         asksStamp: found.kind === 'csv' && found.components.size > 0,
         raises,

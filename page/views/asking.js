@@ -9,7 +9,9 @@ import {
 import { digest, proposalLink } from './marks.js';
 import { knownOf } from '../desk/doubts.js';
 import { listed } from '../desk/lists.js';
+import { openDoubts, openProposals } from '../desk/proposals.js';
 import { changed, standing } from '../desk/standing.js';
+import { wire } from '../formats/wire.js';
 import { grouped } from '../formats/words.js';
 
 /** @typedef {import('./dom.js').Child} Child */
@@ -17,9 +19,11 @@ import { grouped } from '../formats/words.js';
 /** @typedef {import('../desk/doubts.js').Known} Known */
 /** @typedef {import('../desk/journal.js').Command} Command */
 /**
- * What a form makes of its fields: what is wrong with each; or a command and doubts.
+ * What a form makes of its fields: what is wrong with each; or a command, what it names, and
+ * doubts.
  * @typedef {{ faults: [input: HTMLElement, fault: string][] }
- *   | { doubts: (all: Known) => Doubt[], command: () => Command }} Made
+ *   | { named: Named, doubts: (all: Known) => Doubt[], command: () => Command }} Made
+ * @typedef {import('../desk/proposals.js').Named} Named
  */
 
 /** How many doubts are shown. */
@@ -46,26 +50,43 @@ export function doubtList(doubts) {
 
 // Asks back if there is a doubt.
 /** @param {Doubt[]} doubts @param {string} [yes] what the button says that goes on */
-export async function settled(doubts, yes = 'Propose it all the same') {
+export async function settled(doubts, yes = wire.questions.propose.button) {
     if (doubts.length === 0) return true;
-    return sure('Is that what you mean?', doubtList(doubts), yes, 'Change it');
+    return sure(wire.questions.propose.title, doubtList(doubts), yes, 'Change it');
 }
 
-// Sends a proposal, and says what comes next.
-/** @param {Command} command @param {HTMLElement} said @param {import('./act.js').Control[]} off */
-export async function propose(command, said, off) {
+/**
+ * Asks back where there is a doubt, or an open proposal names it; sends the proposal, and says what
+ * comes next. Its form goes then: one that is still there is soon sent twice.
+ * @param {Named} named
+ * @param {Doubt[]} doubts
+ * @param {() => Command} make
+ * @param {HTMLElement} said behind the form
+ * @param {import('./act.js').Control[]} off
+ */
+export async function propose(named, doubts, make, said, off) {
+    const others = await openProposals(named);
+    if (others.kind !== 'value') return fill(said, refusalBox(others));
+    if (!(await settled([...doubts, ...openDoubts(named, others.value)]))) return undefined;
+    const command = make();
     const reply = await act(command, said, { off });
-    if (!reply) return;
+    if (!reply) return undefined;
     changed();
+    const form = said.parentElement?.querySelector('form');
+    if (form) form.hidden = true;
     const next = command.open
         ? 'The desk may have taken it before: see whether it is still open.'
         : 'It changes nothing until another officer confirms it.';
     const { proposal } = reply;
+    const onclick = () => dispatchEvent(new HashChangeEvent('hashchange'));
+    const another = h('a', { href: location.hash, onclick }, 'propose something else');
+    const look = proposalLink(proposal, `Look at proposal ${proposal}`);
     fill(said, box(
         'good',
         p(strong(`This is proposal ${proposal}. `), next),
-        p(proposalLink(proposal, `Look at proposal ${proposal}`)),
+        p(look, ' or ', another, '.'),
     ));
+    return look.focus();
 }
 
 // What a form's button does, once at a time: a press meanwhile does nothing, and the button keeps
@@ -114,8 +135,7 @@ export function form(title, body, make) {
         const all = await known();
         fill(said);
         if ('kind' in all) return fill(said, refusalBox(all));
-        if (await settled(made.doubts(all))) await propose(made.command(), said, [go]);
-        return undefined;
+        return propose(made.named, made.doubts(all), made.command, said, [go]);
     });
     const place = formPart(title, submit, [body, buttons(go)], said);
     return place;

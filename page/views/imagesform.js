@@ -79,6 +79,7 @@ function revocation(input) {
     const rows = given.map((digest) => `sha256,${digest},\n`);
     const csv = `kind,value,generation\n${rows.join('')}`;
     return {
+        named: { digests: given, certificates: [], components: [] },
         doubts: (all) => [
             ...lines.flatMap((line) => colonDoubts(line, 'image')),
             // Both digests of an image are there: the doubt that there are two is settled.

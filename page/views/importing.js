@@ -1,7 +1,7 @@
 // An import, with a look at what is in the file before it is proposed.
 
 import { refusalBox } from './act.js';
-import { formPart, known, propose, settled } from './asking.js';
+import { formPart, known, onceAtATime, propose } from './asking.js';
 import {
     answers, box, buttons, faulty, field, fill, h, p, status, strong, submitButton,
 } from './dom.js';
@@ -58,19 +58,18 @@ export function importForm() {
         return fill(inside, lookBox(seen));
     }, MOST);
     const go = submitButton('Propose this import');
-    const submit = async (/** @type {Event} */ event) => {
-        event.preventDefault();
+    const submit = onceAtATime(async () => {
         const none = noFile(input, 'Choose a file.');
         const wrong = found?.look.fault ? 'This file can’t be imported.' : '';
         if (faulty([input, found ? wrong : none]) || !found) return undefined;
-        const { look: { asksStamp, raises, doubts, path, body }, name, present } = found;
+        const { look: { named, asksStamp, raises, doubts, path, body }, name, present } = found;
         const isOdd = asksStamp && !isStamp(stamp.value);
         if (faulty([stamp, isOdd ? STAMP_FAULT : ''])) return undefined;
         const own = asksStamp && raises ? stampDoubts(Number(stamp.value), present) : [];
-        if (!(await settled([...doubts, ...own]))) return undefined;
         const fields = asksStamp ? { 'Desk-Stamp': stamp.value } : undefined;
-        return propose(new Command(`Import of ${name}`, path, body, fields), said, [go, input]);
-    };
+        const make = () => new Command(`Import of ${name}`, path, body, fields);
+        return propose(named, [...doubts, ...own], make, said, [go, input]);
+    });
     const body = [place, inside, stampField, buttons(go)];
     return formPart('Import revocations', submit, body, said);
 }

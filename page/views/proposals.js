@@ -1,16 +1,24 @@
 // The proposals: what officers want to put into force.
 
 import { read } from './act.js';
-import { h, heading, quiet } from './dom.js';
+import { field, h, heading, quiet } from './dom.js';
 import { named } from './impact.js';
 import { badge, proposalLink } from './marks.js';
 import { choices, paged } from './table.js';
 import { listed } from '../desk/lists.js';
-import { withYou } from '../desk/session.js';
+import { described } from '../desk/proposals.js';
+import { ownProposals, times } from '../desk/proposed.js';
+import { proposalMatches } from '../desk/search.js';
+import { me, withYou } from '../desk/session.js';
+import { standing } from '../desk/standing.js';
+import { look } from '../desk/waiting.js';
 import { wire } from '../formats/wire.js';
-import { stateChoices, stateCounts } from '../formats/words.js';
+import { ageWords, counted, stateChoices, stateCounts } from '../formats/words.js';
 
 /** @typedef {import('../desk/types.js').ProposalRow} ProposalRow */
+
+/** Of so many open ones it is read what they name. */
+const DESCRIBED = 50;
 
 /** @param {HTMLElement} place */
 export function proposalsView(place) {
@@ -22,28 +30,82 @@ export function proposalsView(place) {
     read(place, () => listed('proposals'), (proposals) => list(place, proposals));
 }
 
+// What a row says of a proposal, whose words come later: the same elements each time.
+function marksOf() {
+    /** @type {Map<number, { link: HTMLElement, age: HTMLElement }>} */
+    const all = new Map();
+    const of = (/** @type {ProposalRow} */ proposal) => {
+        const { number } = proposal;
+        const made = all.get(number)
+            ?? { link: proposalLink(number, named(proposal)), age: h('span') };
+        all.set(number, made);
+        return made;
+    };
+    const words = (/** @type {number} */ number) => all.get(number)?.link.textContent ?? '';
+    return { of, words };
+}
+
+/**
+ * Says of the open ones what they are, and how old.
+ * @param {HTMLElement} place
+ * @param {ProposalRow[]} open
+ * @param {ReturnType<typeof marksOf>} marks
+ */
+async function tellMore(place, open, marks) {
+    await look();
+    await ownProposals();
+    const made = await times();
+    for (const row of open) marks.of(row).age.textContent = ageWords(made.get(row.number) ?? '');
+    const now = await standing();
+    for (const row of now.kind === 'value' ? open.slice(0, DESCRIBED) : []) {
+        if (!place.isConnected || now.kind !== 'value') return;
+        const words = await described(row, now.value);
+        if (words) marks.of(row).link.textContent = words;
+    }
+}
+
 /** @param {HTMLElement} place @param {ProposalRow[]} proposals */
 function list(place, proposals) {
+    const marks = marksOf();
+    const told = h('p', { class: 'unseen', role: 'status' });
     const table = paged({
         caption: 'Proposals',
         kind: 'wide queue',
-        head: ['No', 'It names', 'By', 'State'],
-        empty: 'There is none in this state.',
+        head: ['No', 'It names', 'By', 'State', 'Proposed'],
+        empty: 'No proposal is like this. Choose another state, or change the text.',
         row: (/** @type {ProposalRow} */ proposal) => {
             const { number, officer, state } = proposal;
-            const title = proposalLink(number, named(proposal));
-            return [['number', number], ['title', title], ['from', withYou(officer)], badge(state)];
+            const { link, age } = marks.of(proposal);
+            return [
+                ['number', number],
+                ['title', link],
+                ['from', withYou(officer)],
+                badge(state),
+                ['from', age],
+            ];
         },
     });
-    const counts = stateCounts(proposals);
-    const show = (/** @type {string} */ wanted) => {
-        states.show(wanted, counts);
-        table.set(proposals.filter(({ state }) => wanted === 'all' || state === wanted));
+    let wanted = 'open';
+    const show = () => {
+        const like = proposals.filter((row) => (
+            !(others.checked && row.officer === me.name)
+            && proposalMatches(row, search.value, marks.words(row.number))
+        ));
+        const rows = like.filter(({ state }) => wanted === 'all' || state === wanted);
+        states.show(wanted, stateCounts(like));
+        table.set(rows);
+        told.textContent = counted(rows.length, 'proposal');
     };
     const states = choices('Proposals by state', stateChoices(wire.words.proposals), (value) => {
-        show(value);
+        wanted = value;
+        show();
         states.focus();
     });
-    place.append(h('div', { class: 'tools' }, states.place), table.place);
-    show('open');
+    const search = h('input', { type: 'search', autocomplete: 'off', oninput: show });
+    const others = h('input', { type: 'checkbox', id: 'not-mine', onchange: show });
+    const filter = field('Filter by number, name or what it names', search);
+    const notMine = h('div', {}, others, ' ', h('label', { for: 'not-mine' }, 'Not mine'));
+    place.append(h('div', { class: 'tools' }, states.place, filter, notMine), told, table.place);
+    show();
+    tellMore(place, proposals.filter(({ state }) => state === 'open'), marks);
 }

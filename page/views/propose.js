@@ -27,6 +27,7 @@ function certificateForm() {
         const what = 'Propose to revoke a certificate';
         const colons = colonDoubts(text, 'certificate');
         return {
+            named: { digests: [], certificates: [digest], components: [] },
             doubts: (all) => [
                 ...colons,
                 ...certificateDoubts(digest, all),
@@ -87,6 +88,7 @@ function raised(name, typed, day) {
     }
     const value = { component, generation, stamp };
     return {
+        named: { digests: [], certificates: [], components: [[component, generation]] },
         doubts: (all) => [
             ...generationDoubts(component, generation, all),
             ...stampDoubts(stamp, all.now.level.stamp),

@@ -3,10 +3,11 @@ lists."""
 from __future__ import annotations
 
 import datetime
+import re
 from dataclasses import dataclass
-from typing import Any, Iterable, Optional
+from typing import Any, Optional
 
-from .answers import Counts, Me, Request, said_number, shaped
+from .answers import Me, Request, said_number, shaped
 from .desk import Desk
 from .http import Call
 from .journal import now
@@ -71,17 +72,16 @@ def yes_words(one: Request) -> str:
     return f"{len(whose)} of {NEEDED} yes" + (f", by {', '.join(whose)}" if whose else "")
 
 
-def ages_of(desk: Desk, proposals: Iterable[Counts]) -> dict[int, str]:
-    """How long ago each was proposed, by the clock of whoever made its key; only of those among the
-    desk's last calls."""
-    replies = {f"proposed {one.number}": one.number for one in proposals}
-    changes = changes_of(desk) if replies else None
+def ages_of(desk: Desk) -> dict[int, str]:
+    """How long ago each proposal was made, by the clock of whoever made its key; only of those
+    among the desk's last calls."""
+    changes = changes_of(desk)
     if changes is None:
         return {}
     first = max(changes - PART + 1, 1)
     calls = map(minute, minutes_from(desk, first).decode("ascii", "replace").splitlines())
-    return {replies[call.reply]: age(call.time()) for call in calls
-            if call and call.reply in replies and call.time()}
+    made = [(call, re.fullmatch("proposed ([0-9]+)", call.reply)) for call in calls if call]
+    return {int(number[1]): age(call.time()) for call, number in made if number and call.time()}
 
 
 def age(time: str) -> str:

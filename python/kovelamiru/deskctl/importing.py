@@ -9,6 +9,7 @@ from ..doubts import known, level_doubts
 from ..faults import Causes, Refused, wrong
 from ..files import BODY_LIMIT, ENTRY_LIMIT
 from ..http import Call
+from ..proposals import open_doubts
 from ..refusals import next_steps
 from ..revocations import Revocations, revocations_of
 from ..siglists import MICROSOFT, guid
@@ -133,6 +134,7 @@ def import_doubts(run: Run, found: Revocations, stamp: Optional[int], force: For
     higher = [pair for pair in found.components if pair[1] > force.level.get(pair[0], 0)]
     seen = known(run.desk, found.digests, found.certificates, higher, found.given)
     doubts = seen.doubts + level_doubts(higher, stamp, force.level, seen.names)
+    doubts += open_doubts(run.desk, set(found.digests), set(found.certificates), higher)
     if found.entries() and not any(force.new(found).values()):
         doubts.append("Nothing in it is new: a Confirm would change nothing.")
     return doubts

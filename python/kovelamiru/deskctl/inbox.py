@@ -4,9 +4,9 @@ from __future__ import annotations
 from typing import Mapping, Sequence
 
 from ..answers import Counts, Me, Request, caller_of, shaped
+from ..proposals import counts_words
 from ..standing import barred_by, revoked_of
 from ..waiting import ages_of, own_proposals, waiting_of, yes_words
-from ..words import kinds
 from .run import Run
 
 Rows = Sequence[tuple[object, ...]]
@@ -24,8 +24,8 @@ def request_rows(run: Run, requests: Sequence[Request]) -> Rows:
 
 def proposal_rows(proposals: Sequence[Counts], ages: Mapping[int, str]) -> Rows:
     """Each proposal with what it names, and its age."""
-    return [(one.number, kinds({name: count for name, count in one.named().items() if count}),
-             one.officer, ages.get(one.number, "-")) for one in proposals]
+    return [(one.number, counts_words(one), one.officer, ages.get(one.number, "-"))
+            for one in proposals]
 
 
 def section(run: Run, title: str, heads: Sequence[str], rows: Rows) -> None:
@@ -54,7 +54,7 @@ def inbox(run: Run) -> None:
 
 
 def officers(run: Run, others: Sequence[Counts], own: Sequence[Counts]) -> None:
-    ages = ages_of(run.desk, [*others, *own])
+    ages = ages_of(run.desk) if others or own else {}
     heads = ("PROPOSAL", "NAMES", "BY", "AGE")
     section(run, WAITS, heads, proposal_rows(others, ages))
     section(run, OWN, heads, proposal_rows(own, ages))

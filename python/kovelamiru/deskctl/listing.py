@@ -57,9 +57,11 @@ def taken(run: Run, of: List) -> Values:
     """Those that the words name. No part is asked for behind the last one that is shown."""
     words = run.words
     name = own_name(run) if words.mine else None
+    without = own_name(run) if getattr(words, "not_mine", False) else None
     found: Values = (value for value in run.desk.listed(of.path, words.first)
                      if words.state in (None, value.get("state"))
                      and name in (None, value.get(of.whose))
+                     and (without is None or value.get(of.whose) != without)
                      and (not words.search or of.matches(value, words.search)))
     if words.sort == "newest":
         found = reversed(list(found))

@@ -16,6 +16,7 @@ from ..http import Call
 from ..minutes import minute_lines
 from ..pem import certificate_of
 from ..pkcs7 import algorithm_doubts, signatures_of
+from ..proposals import open_doubts
 from ..questions import QUESTIONS, unlist_question
 from ..signer import Beside, image_doubts, known_bodies, listing_doubts, shown
 from ..standing import level_of, standing_of
@@ -227,6 +228,7 @@ def revoke(run: Run) -> None:
             run.terminal.note(
                 f"  {kind} {digest}  {words or 'known to no request and no list'}")
         doubts = found.doubts + found.revoked + found.halves
+        doubts += open_doubts(run.desk, digests, certificates, [])
         if doubts:
             run.terminal.confirm(doubts, "Propose it all the same? Type yes:")
 
@@ -245,6 +247,8 @@ def raise_level(run: Run) -> None:
         run.terminal.note(
             f"  {name} {current[1].get(name, 'none')} -> {generation}, stamp {current[0]} ->"
             f" {stamp}")
+        if not taken:
+            doubts += open_doubts(run.desk, [], [], [(name, generation)])
         if doubts and not taken:
             run.terminal.confirm(doubts, "Propose it all the same? Type yes:")
 

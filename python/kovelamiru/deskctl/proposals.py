@@ -2,16 +2,18 @@
 from __future__ import annotations
 
 from dataclasses import dataclass
-from typing import Any, Optional
+from typing import Any, Callable, Optional
 
 from ..answers import Counts, Impact, Proposal, me_of, proposal_in, said_number, shaped
 from ..described import WORDS
 from ..doubts import Known, known, level_doubts
 from ..faults import REFUSED, Refused, Stop, wrong
 from ..http import Call
+from ..proposals import counts_words, described
 from ..questions import plain_question, rule_words
 from ..search import proposal_matches
-from ..standing import level_of
+from ..standing import level_of, standing_of
+from ..waiting import ages_of
 from ..words import KINDS, counted, kinds, printable
 from .listing import List, show
 from .run import OTHER_DESK, Replies, Run, act
@@ -26,7 +28,28 @@ def proposal_row(value: dict[str, Any]) -> tuple[object, ...]:
     return one.number, one.state, one.digests, one.certificates, one.components, one.officer
 
 
+# Of so many open ones it is read what they name.
+DESCRIBED = 50
+
+
+def row_at_a_terminal(run: Run) -> Callable[[dict[str, Any]], tuple[object, ...]]:
+    """How a row is made that says what an open proposal is, and how old."""
+    now, ages, left = standing_of(run.desk), ages_of(run.desk), iter(range(DESCRIBED))
+
+    def row(value: dict[str, Any]) -> tuple[object, ...]:
+        one = shaped(Counts, value)
+        is_open = one.state == "open" and next(left, None) is not None
+        names = described(run.desk, one, now) if is_open else ""
+        return (one.number, names or counts_words(one), one.officer, one.state,
+                ages.get(one.number, "-"))
+
+    return row
+
+
 def proposals(run: Run) -> None:
+    if run.terminal.wide and not run.words.json:
+        show(run, ALL, ("NUMBER", "NAMES", "OFFICER", "STATE", "AGE"), 1, row_at_a_terminal(run))
+        return
     show(run, ALL, ("NUMBER", "STATE", "DIGESTS", "CERTIFICATES", "COMPONENTS", "OFFICER"), 5,
          proposal_row)
 

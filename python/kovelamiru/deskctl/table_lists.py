@@ -11,6 +11,7 @@ from .proposals import ALL, confirm, drop, proposal, proposals
 PROPOSAL = word("number", metavar="N", type=number_word, help="the proposal's number")
 EXPECT = word("--expect", metavar="HEX", type=hash_word,
               help="go on only if it is what `deskctl proposal N` showed with this tag")
+NOT_MINE = word("--not-mine", action="store_true", help="those that others made")
 BARS = word("--bars", metavar="COUNT", type=count_word,
             help="go on only if it bars exactly so many known images")
 ALLOWING = "Listing (db), by one officer"
@@ -85,9 +86,10 @@ LISTS: tuple[Command, ...] = (
              " what is in it. More than 10,000 entries are several proposals. Versions of Windows'"
              " boot programs and hashes of whole files are left out."),
             "deskctl import DBXUpdate.bin --dry-run"),
-    Command("proposals", REVOKING, "[--state S] [--mine] [--search TEXT]", "list the proposals",
-            proposals, list_words(ALL, "those that you made"), "officers",
-            ("Without a terminal a proposal is a line of fields parted by tabs: number, state,"
+    Command("proposals", REVOKING, "[--state S] [--not-mine] [--search TEXT]", "list the proposals",
+            proposals, (*list_words(ALL, "those that you made"), NOT_MINE), "officers",
+            ("On a terminal it says what an open one names, a digest with its image, and how old it"
+             " is. Without one a proposal is a line of fields parted by tabs: number, state,"
              " digests, certificates, components, officer."), "deskctl proposals --state open"),
     Command(
         "proposal", REVOKING, "N", "show all that a proposal names, and what it bars", proposal,
