@@ -57,7 +57,8 @@ packed() { gzip -9n "$1"; }
 # ---- the files
 
 place 755 "$program" usr/bin/desk
-for unit in desk.service publish.service publish.timer standby.service standby.timer \
+place 755 "$here/may-serve" "usr/lib/$name/may-serve"
+for unit in desk.service peer.service publish.service publish.timer standby.service standby.timer \
     mirror.service mirror.timer; do
     place 644 "$here/kovelamiru-$unit" "usr/lib/systemd/system/kovelamiru-$unit"
 done
@@ -83,7 +84,7 @@ while read -r module; do
     place 644 "$root/python/$module" "usr/lib/$name/$module"
 done < "$room/modules"
 ln -s "../../../share/$name/page/wire" "$tree/usr/lib/$name/kovelamiru/wire"
-for tool in desk-publish desk-standby kovelamiru-mirror; do
+for tool in desk-peer desk-publish desk-standby kovelamiru-mirror; do
     place 755 "$here/$tool" "usr/lib/$name/$tool"
     ln -s "../lib/$name/$tool" "$tree/usr/bin/$tool"
 done

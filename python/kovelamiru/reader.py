@@ -10,9 +10,10 @@ import sys
 import time
 from typing import Callable, Optional
 
-from .faults import LOST, NoAnswer, Stop, Unreadable, broken, reason, wrong
+from . import terms
+from .faults import LOST, REFUSED, NoAnswer, Stop, Unreadable, broken, reason, wrong
 from .files import Exposed, is_token, private_line
-from .http import Call, Site, Where, address
+from .http import Answer, Call, Site, Where, address
 from .minutes import is_numbered
 
 # How long a desk's answer may take from its body's first byte on, and be: a list of 10,000
@@ -78,8 +79,9 @@ class Reader(Site):
         super().__init__(where, context, "" if words.cert else token_of(words.token_file), program)
         self.most_seconds, self.most_bytes = ANSWER_SECONDS, ANSWER_BYTES
 
-    def get(self, path: str) -> bytes:
-        """What the desk shows there. It is asked again where no answer came, or none of its own."""
+    def asked(self, path: str, *others: int) -> Answer:
+        """An answer of status 200, or of one of these. It is asked again where none came, or none
+        of the desk's own."""
         said = ""
         for pause in (1, 2, 4, 8, 0):
             try:
@@ -87,13 +89,34 @@ class Reader(Site):
             except NoAnswer as lost:
                 said = str(lost)
             else:
-                if answer.status == 200:
-                    return answer.data()
+                if answer.status in (200, *others):
+                    return answer
                 said = f"{answer.status} {answer.data()[:200].decode(errors='replace')}"
                 if answer.status not in (429, 502, 503, 504):
                     break
             time.sleep(pause)
         broken(f"GET {path}: {said}")
+
+    def get(self, path: str) -> bytes:
+        """What the desk shows there."""
+        return self.asked(path).data()
+
+    def same_term(self, path: str) -> None:
+        """Ends the run where the term of the desk's machine is below one that was seen, which the
+        file keeps, or that of this machine. On loopback there is no site that shows it."""
+        try:
+            found = terms.shown(self.asked("/term", 403, 404))
+        except NoAnswer as fault:
+            broken(f"GET /term: {fault}")
+        seen = terms.kept(path)
+        most = max(seen, terms.kept(f"{terms.STATE}/term"))
+        if found is None and not self.where.tls:
+            return
+        if (found or 0) < most:
+            raise Stop(REFUSED, f"refused term: {self.where} has {found or 'none'}, and {most} was"
+                       " seen: another machine has been promoted, and this desk is the old one's")
+        if found and found > seen:
+            terms.keep(path, found)
 
     def lines_from(self, number: int) -> bytes:
         """The minutes from this line on, 1,000 lines at most, or none."""

@@ -13,7 +13,7 @@ import time
 from typing import Any
 
 from ..faults import DONE, broken, wrong
-from ..reader import add_reader, ended, has_reader
+from ..reader import Reader, add_reader, ended, has_reader
 from .desk import from_file, from_url
 from .folder import current, filled, hidden, linked, named, published, swept
 from .rules import judged
@@ -53,6 +53,7 @@ earlier date than it had.
 Nothing is published, and the line on standard error begins with `desk-publish: refused RULE`, where
 
   audit       `desk audit` refuses the minutes, or what the desk exports doesn't follow from them
+  term        of two machines with the desk this is the old one: another has been promoted
   minutes     they don't begin with those published last: an older copy of the desk, or another desk
   witness     they don't begin with those of which a mirror has the checkpoint, signed by --key
   dbx         it lacks an entry that was published
@@ -110,7 +111,12 @@ def publish(words: argparse.Namespace, link: str) -> str:
     swept(link, words.keep)
     if not words.public_minutes:
         hidden(link)
-    found = from_file(words.program, words.db) if words.db else from_url(words)
+    if words.db:
+        found = from_file(words.program, words.db)
+    else:
+        desk = Reader(words, "desk-publish")
+        desk.same_term(f"{link}.term")
+        found = from_url(desk)
     witnessed(words, last, found)
     found, waits = judged(words, last.found if last else None, found)
     if waits:

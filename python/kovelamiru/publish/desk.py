@@ -1,7 +1,6 @@
 """What a desk has at one moment: its minutes and lists, by its server or by its file."""
 from __future__ import annotations
 
-import argparse
 import hashlib
 from dataclasses import dataclass
 from typing import Optional
@@ -77,10 +76,9 @@ def level_of(data: bytes) -> tuple[int, dict[str, int]]:
         broken(str(fault))
 
 
-def from_url(words: argparse.Namespace) -> Found:
+def from_url(desk: Reader) -> Found:
     """The desk that serves there, all four of one moment: if calls came meanwhile, again with their
     lines."""
-    desk = Reader(words, "desk-publish")
     minutes = desk.minutes()
     for _ in range(TRIES):
         found = Found(minutes, desk.get("/dbx"), desk.get("/db"), desk.get("/level"))
