@@ -12,7 +12,7 @@ import zipfile
 
 
 # What deskctl doesn't use.
-OTHERS = ("publish", "reader.py", "standby.py", "shim.py")
+OTHERS = ("publish", "mirror.py", "fetch.py", "peer.py", "reader.py", "standby.py", "shim.py", "terms.py")
 
 
 def packed(source: pathlib.Path) -> io.BytesIO:

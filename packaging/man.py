@@ -70,6 +70,7 @@ FILES = {
     "/var/lib/kovelamiru-standby/minutes.txt": "The minutes that desk-standby has fetched.",
 }
 TOOLS = {
+    "desk-peer": "of two machines with a Secure Boot desk, lets one serve it",
     "desk-publish": "publishes what a Secure Boot desk decided",
     "desk-standby": "keeps a copy of a Secure Boot desk",
     "kovelamiru-mirror": "mirrors what a Secure Boot desk publishes",
@@ -195,7 +196,7 @@ def desk_page(said, date):
         ("INPUT AND OUTPUT", formats),
         ("EXIT STATUS", terms(STATUSES)),
         ("DIAGNOSTICS", diagnostics + roff("desk-http(7) lists all refusals.")),
-        *of_readme("The service", "Who may connect", "Backup", "A standby"),
+        *of_readme("The service", "Who may connect", "Backup", "A standby", "Two machines"),
         *of_readme("What makes a desk grow", "A proxy in front", "People with certificates"),
         *of_readme("Publishing"),
         ("AUDITS", document("AUDIT")),

@@ -11,7 +11,7 @@ from checks.packaging.conftest import NAME, Package, quiet
 from checks.support.tools import ROOT, ran
 from checks.support.wire import REFUSALS
 
-TOOLS = ("desk-publish", "desk-standby", "kovelamiru-mirror")
+TOOLS = ("desk-peer", "desk-publish", "desk-standby", "kovelamiru-mirror")
 PAGES = (
     "man1/desk.1", "man7/desk-http.7", "man1/deskctl.1", "man1/desk-demo.1",
     *(f"man1/{name}.1" for name in TOOLS),

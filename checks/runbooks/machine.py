@@ -31,6 +31,7 @@ DESK, PUBLISH = "kovelamiru-desk", "kovelamiru-publish"
 ACCOUNTS = [DESK, PUBLISH, *PEOPLE, "nadia", "rosa"]
 FOLDERS = {
     "state": (0o700, DESK), "standby": (0o700, DESK), "publish": (0o755, PUBLISH),
+    "peer": (0o755, DESK), "run": (0o755, DESK),
     "root": (0o700, ""), "tmp": (0o1777, ""),
     **dict.fromkeys(
         ("bin", "etc/default", "etc/nginx/sites-enabled", "srv", "home", "nginx", "examples"),
@@ -69,7 +70,8 @@ def replaced(text: str, names: dict[str, str]) -> str:
 
 
 class Machine:
-    """`told` is the SHA-256 that somebody read out last."""
+    """`told` is the SHA-256 that somebody read out last; `old` is another machine, of two with one
+    desk."""
 
     def __init__(self, program: Path, room: Path) -> None:
         self.program, self.room = str(program), room / "machine"
@@ -79,6 +81,7 @@ class Machine:
         self.shells: dict[str, Shell] = {}
         self.tokens: dict[str, str] = {}
         self.keys, self.told = 0, ""
+        self.old: Machine | None = None
         for folder, (mode, name) in FOLDERS.items():
             (self.room / folder).mkdir(parents=True)
             self.owned(self.room / folder, name, mode)
@@ -89,6 +92,7 @@ class Machine:
             site: f"http://127.0.0.1:{self.proxy}", f"{site}:8444": f"http://127.0.0.1:{self.back}",
             f"{var}-desk": f"{own}/state", f"{var}-publish": f"{own}/publish",
             f"{var}-standby": f"{own}/standby", "/var/log/nginx": f"{own}/nginx",
+            f"{var}-peer": f"{own}/peer", "/run/kovelamiru-peer": f"{own}/run",
             "/usr/share/doc/kovelamiru-desk/examples": f"{own}/examples",
             **{f"/{name}/": f"{own}/{name}/" for name in ("etc", "root", "srv", "tmp")},
         }
@@ -101,6 +105,9 @@ class Machine:
         for name, account in (("as_desk", DESK), ("as_publish", PUBLISH)):
             own[name] = RUNS_AS.format(self.users[account]) if self.users else ""
         self.script("systemctl", SYSTEMCTL.format(**own))
+        condition = (self.repository / "packaging/may-serve").read_text()
+        self.script("may-serve", condition.replace("/etc/default", f"{self.room}/etc/default")
+                    .replace("systemctl", f"{self.room}/bin/systemctl"))
         self.script("supervise", SUPERVISE.format(program=self.program, **own))
         self.script("listens", LISTENS)
         change = RUNS_AS.format('"$(id -u "$user")"') if self.users else ""
@@ -109,7 +116,8 @@ class Machine:
             self.script("chown", "#!/bin/sh\n")
         # `journalctl -t PROGRAM -n LINES -o cat`
         self.script("journalctl", f'#!/bin/sh\ntail -n "$4" "{self.room}/journal.$2"\n')
-        for path in ("client/deskctl", "packaging/desk-publish", "packaging/desk-standby"):
+        for path in ("client/deskctl", "packaging/desk-peer", "packaging/desk-publish",
+                     "packaging/desk-standby"):
             (self.room / "bin" / Path(path).name).symlink_to(self.repository / path)
         (self.room / "bin" / "desk").symlink_to(self.program)
 
@@ -201,6 +209,14 @@ class Machine:
         (self.room / "supervise.pid").unlink()
         until(60, "the desk is gone", lambda: not listening(self.port))
 
+    def paired(self, other: Machine, term: int) -> None:
+        """It asks the other one's nginx before its desk serves."""
+        options = f"--url http://127.0.0.1:{other.proxy} --patience 0"
+        for name, at in (("state", "peer"), ("run", "run"), ("followed", "standby/none")):
+            options += f" --{name} {self.room}/{at}"
+        self.writes("etc/default/kovelamiru-peer", f"PEER='{options}'\n", mode=0o644)
+        self.writes("peer/term", f"{term}\n", mode=0o644)
+
     # ---- nginx
 
     def site(self, name: str) -> str:
@@ -210,12 +226,14 @@ class Machine:
         site = re.sub(r"^ *(ssl_|listen \[).*\n", "", site, flags=re.M)
         for port, here in ((443, self.proxy), (8444, self.back)):
             site = site.replace(f"listen {port} ssl;", f"listen 127.0.0.1:{here};")
-        included = f"include {self.repository}/packaging/"
-        site = site.replace("include /usr/share/kovelamiru-desk/", included)
+        site = site.replace("include /usr/share/kovelamiru-desk/", f"include {self.room}/nginx/")
         return re.sub("/var/log/nginx|/etc/", lambda found: self.paths[found[0]], site)
 
     def start_proxy(self) -> None:
         folder = self.room / "nginx"
+        part = (self.repository / "packaging/nginx-desk.conf").read_text()
+        shown = {path: here for path, here in self.paths.items() if path.endswith("-peer")}
+        (folder / "nginx-desk.conf").write_text(replaced(part, shown))
         (folder / "site.conf").write_text(self.site("nginx.conf"))
         closed = self.room / "examples" / "nginx-maintenance.conf"
         closed.write_text(self.site("nginx-maintenance.conf"))
@@ -251,6 +269,8 @@ class Machine:
 
     def typed(self, command: Command) -> list[str]:
         """What comes of a command, as the page would call it."""
+        if command.who == "old" and self.old:
+            return self.old.typed(command._replace(who="root"))
         here = re.sub(r"\bSHA256\b", self.told, replaced(command.text, self.paths))
         lines = self.shell(command.who).typed(here)
         read_out = [one for one in lines if re.fullmatch("[0-9a-f]{64}", one)]

@@ -7,15 +7,24 @@ SYSTEMCTL = """\
 case "$*" in
     'start kovelamiru-desk' | 'enable --now kovelamiru-desk' | 'restart kovelamiru-desk')
         [ "$1" != restart ] || "$0" stop kovelamiru-desk
+        # (a start that its condition skips is no fault)
+        "{bin}/may-serve" 2>> "{room}/journal.may-serve" || exit 0
         setsid "{bin}/supervise" > /dev/null 2>&1 < /dev/null &
         until "{bin}/listens" {port}; do sleep 0.02; done
         ;;
     'stop kovelamiru-desk')
         kill "$(cat "{room}/supervise.pid")"
         while "{bin}/listens" {port} || [ -e "{room}/supervise.pid" ]; do sleep 0.02; done
+        rm -f "{room}/run/serves"
         ;;
+    'start kovelamiru-peer.service')
+        . "{room}/etc/default/kovelamiru-peer"
+        {as_desk} "{bin}/desk-peer" start $PEER 2>> "{room}/journal.desk-peer" ||
+            {{ status=$?; echo $status > "{room}/peer.status"; exit 1; }}
+        ;;
+    'show -P ExecMainStatus kovelamiru-peer.service') cat "{room}/peer.status" ;;
     'is-active kovelamiru-desk')
-        if [ -e "{room}/supervise.pid" ]; then echo active; else echo inactive; fi
+        if [ -e "{room}/supervise.pid" ]; then echo active; else echo inactive; exit 3; fi
         ;;
     'reload nginx' | 'restart nginx')
         nginx -t -q -p "{room}/nginx/" -e "{room}/nginx/error.log" -c nginx.conf
@@ -27,6 +36,7 @@ case "$*" in
         for worker in $workers; do while [ -e "/proc/$worker/exe" ]; do sleep 0.02; done; done
         ;;
     'enable --now kovelamiru-publish.timer' | 'disable --now kovelamiru-standby.timer') ;;
+    'disable kovelamiru-desk') ;;
     'start kovelamiru-publish')
         . "{room}/etc/default/kovelamiru-publish"
         # As LoadCredential does.
