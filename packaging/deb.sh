@@ -106,7 +106,7 @@ ln -s "../../../share/$name/page" "$tree/$demo/page"
 ln -s "../lib/$name/demo/packaging/demo.sh" "$tree/usr/bin/desk-demo"
 
 python3 "$here/man.py" "$program" "$(date -d "@$SOURCE_DATE_EPOCH" +%F)" "$room"
-for page in desk.1 desk-http.7 desk-demo.1 desk-publish.1 desk-standby.1 kovelamiru-mirror.1; do
+for page in desk.1 desk-http.7 desk-demo.1 desk-peer.1 desk-publish.1 desk-standby.1 kovelamiru-mirror.1; do
     packed "$room/$page"
     place 644 "$room/$page.gz" "usr/share/man/man${page##*.}/$page.gz"
 done
