@@ -13,7 +13,7 @@ from checks.support.tools import ran
 from kovelamiru.update import efi_time
 
 pytestmark = pytest.mark.needs("openssl", "sign-efi-sig-list", "ssh-keygen")
-QUICK = ("publish/programs.py", "^(PROGRAM_SECONDS, SIGNING_SECONDS =) 300, 120$", r"\1 300, 2")
+QUICK = ("programs.py", "^(PROGRAM_SECONDS, SIGNING_SECONDS =) 300, 120$", r"\1 300, 2")
 OTHER = {
     "no update": ('head -c 100 "$2" > "$3"', 1, "refused signature: "),
     "nothing": (":", 1, "refused signature: "),

@@ -13,10 +13,10 @@ from typing import Callable, Optional
 
 from .faults import DONE, NoAnswer, Unreadable, broken, wrong
 from .fetch import fetched
+from .programs import refused, unsigned
 from .publish.desk import audit_of
 from .publish.files import read, synced, write
 from .publish.folder import current, linked, swept
-from .publish.programs import refused, unsigned
 from .publish.rules import kept
 from .publish.sums import NAME as SUMS, Sums, day, sums_of
 from .reader import ended

@@ -6,10 +6,10 @@ from dataclasses import dataclass
 from typing import Optional
 
 from ..faults import Unreadable, broken
+from ..programs import PROGRAM_SECONDS, ran, said_by
 from ..reader import Reader
 from ..sbat import level_read
 from ..siglists import entries_in
-from .programs import PROGRAM_SECONDS, ran, said_by
 
 LISTS = ("dbx.esl", "db.esl", "level.csv")
 # How often the lists are fetched if calls come meanwhile.

@@ -10,12 +10,12 @@ import time
 from typing import NoReturn, Optional
 
 from ..faults import Unreadable, broken
+from ..programs import SIGNING_SECONDS, audited, ran, refused, said_by, signature
 from ..shim import NAME as SHIM, difference
 from ..update import certificate_length, efi_time
 from .desk import LISTS, Found, audit_of, digest
 from .files import read, synced, write
 from .page import Before, Publication, dbx_json, firsts_of, index
-from .programs import SIGNING_SECONDS, audited, ran, refused, said_by, signature
 from .rules import db_follows, follows
 from .sums import NAME as SUMS, day, sums_of
 

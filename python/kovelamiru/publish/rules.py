@@ -8,9 +8,9 @@ from dataclasses import replace
 from typing import Iterator, Optional
 
 from ..faults import broken, wrong
+from ..programs import audited, refused, unsigned
 from .desk import Found, audit_of, digest, entries, level_of, lines
 from .files import read
-from .programs import audited, refused, unsigned
 
 # What a signature of consent is for, by its namespace.
 CONSENT = "kovelamiru-consent"

@@ -10,11 +10,11 @@ from typing import Optional
 
 from ..faults import NoAnswer, Stop, Unreadable
 from ..fetch import fetched
+from ..programs import public_line, refused, unsigned_by
 from .desk import Found, audit_of, digest, lines
 from .files import read
 from .folder import CHECKPOINT, MINUTES
 from .page import Before
-from .programs import public_line, refused, unsigned_by
 
 # How long a mirror may take, how much of it is read, and how far behind it may be.
 WITNESS_SECONDS, WITNESS_BYTES, BEHIND_SECONDS = 30, 4096, 3600

@@ -9,7 +9,7 @@ import subprocess
 import tempfile
 from typing import NoReturn
 
-from ..faults import REFUSED, Stop, broken, reason
+from .faults import REFUSED, Stop, broken, reason
 
 # How long a program may take: desk(1); the signing command and ssh-keygen(1).
 PROGRAM_SECONDS, SIGNING_SECONDS = 300, 120
