@@ -15,8 +15,8 @@ from kovelamiru.answers import Request
 from kovelamiru.certificates import Certificate, certificate_in
 from kovelamiru.pkcs7 import signatures_of
 from kovelamiru.questions import (
-    QUESTIONS, carried_question, issued_question, plain_question, unknown_words, unlist_question,
-    yes_question
+    QUESTIONS, carried_question, issued_question, plain_question, twice_question, unknown_words,
+    unlist_question, yes_question
 )
 from kovelamiru.standing import Standing
 from kovelamiru.unlisting import losing
@@ -35,6 +35,12 @@ def request_of(case: dict[str, Any]) -> Request:
         7, "open", "ann", "a loader", 512, "", case.get("digest", ""), case.get("signing", ""), 0,
         case.get("carried", []), case.get("components", []), None, votes,
     )
+
+
+@pytest.mark.parametrize("case", CASES["submits"], ids=[one["name"] for one in CASES["submits"]])
+def test_a_file_that_was_submitted_before_is_asked_about(case: dict[str, Any]) -> None:
+    own = [replace(request_of({}), **one) for one in CASES["own"]]
+    assert twice_question(own, case["file"]) == case.get("asks")
 
 
 @pytest.mark.parametrize("case", CASES["yes"], ids=[one["name"] for one in CASES["yes"]])

@@ -5,8 +5,8 @@ import { test } from 'node:test';
 
 import { json, rowBytes } from './cases.mjs';
 import {
-    carriedWords, issuedWords, plainQuestion, returnQuestion, unknownWords, unlistQuestion,
-    yesQuestion,
+    carriedWords, issuedWords, plainQuestion, returnQuestion, twiceWords, unknownWords,
+    unlistQuestion, yesQuestion,
 } from '../../page/desk/questions.js';
 import { losingIn } from '../../page/desk/unlisting.js';
 import { givenOf, namesIn } from '../../page/formats/certificates.js';
@@ -15,7 +15,9 @@ import { sha256 } from '../../page/formats/digests.js';
 import { signaturesOf } from '../../page/formats/pkcs7.js';
 import { wire } from '../../page/formats/wire.js';
 
-const { level, revoked, yes, returns, issued, unknown } = json('cases/questions');
+const {
+    level, revoked, own, submits, yes, returns, issued, unknown,
+} = json('cases/questions');
 const now = {
     level: { names: new Map(Object.entries(level)) },
     revoked: {
@@ -24,6 +26,10 @@ const now = {
     },
 };
 const plain = { number: 7, digest: '', signing: '', carried: [], components: [], votes: [] };
+
+for (const { name, file, asks = '' } of submits) {
+    test(`${name} is submitted`, () => assert.equal(twiceWords(own, file), asks));
+}
 
 for (const { name, asks, why = '', another = false, votes = [], ...facts } of yes) {
     test(`${name}: a yes asks about ${asks.join(', ') || 'nothing'}`, () => {

@@ -1,5 +1,5 @@
-// What is asked before a vote, a withdrawal, a return, a drop, an unlisting or a proposal, in the
-// words of page/wire/questions.json.
+// What is asked before a submission, a vote, a withdrawal, a return, a drop, an unlisting or a
+// proposal, in the words of page/wire/questions.json.
 
 import { barredBy, called } from './standing.js';
 import { certificateOf, isCertificate } from '../formats/certificates.js';
@@ -22,6 +22,20 @@ function question(name, number, lines) {
 /** @param {'no' | 'withdraw' | 'drop'} name @param {number} number of a request or a proposal */
 export function plainQuestion(name, number) {
     return question(name, number, [filled(wire.questions[name].plain, { number })]);
+}
+
+/**
+ * What is said of a file that the same person submitted before, as a request that was open or
+ * approved, or that was signed.
+ * @param {import('./types.js').Request[]} own
+ * @param {string} file
+ * @returns {string} '' where nothing is said
+ */
+export function twiceWords(own, file) {
+    const states = ['open', 'approved', 'signed'];
+    const last = own.filter((one) => one.file === file && states.includes(one.state)).pop();
+    if (!last) return '';
+    return filled(wire.questions.submit.twice, { number: last.number, state: last.state });
 }
 
 /**

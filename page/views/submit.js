@@ -11,6 +11,8 @@ import { barPlace, compared, sent } from './sending.js';
 import { get } from '../desk/api.js';
 import { Command } from '../desk/journal.js';
 import { listed } from '../desk/lists.js';
+import { twiceWords } from '../desk/questions.js';
+import { me } from '../desk/session.js';
 import { wire } from '../formats/wire.js';
 import { textFault } from '../formats/words.js';
 
@@ -58,7 +60,7 @@ export function submitView(place) {
     place.append(form, said);
 }
 
-// Says where the same file was submitted before.
+// Says where the caller submitted the same file before.
 /** @param {string} sha256 */
 async function before(sha256) {
     const answer = await listed('requests');
@@ -67,13 +69,8 @@ async function before(sha256) {
     }
     /** @type {Request[]} */
     const requests = answer.value;
-    const one = requests.filter(({ file }) => file === sha256).pop();
-    return one && box(
-        'care',
-        'The same file was submitted before, as ',
-        requestLink(one.number),
-        ` (${one.state}). The desk takes it again as another request.`,
-    );
+    const words = twiceWords(requests.filter(({ submitter }) => submitter === me.name), sha256);
+    return words ? box('care', words) : null;
 }
 
 /**

@@ -1,13 +1,13 @@
 """Whether an image at hand is the image of a request, and what differs; and what is said of it."""
 from __future__ import annotations
 
-from typing import Any, Iterable, Sequence
+from typing import Any, Iterable, Optional, Sequence
 
-from .answers import Request
+from .answers import Request, titled
 from .facts import Facts, gap_words
 from .pkcs7 import Signature, algorithm_doubts, signature_words
 from .standing import Entry
-from .words import HEX, printable
+from .words import HEX, counted, printable
 
 ODD = (
     "Its length is no multiple of 8, so it has two digests: of an unsigned image firmware looks at"
@@ -103,6 +103,24 @@ def certificate_lines(one: Request, here: Facts, whose: dict[str, str]) -> list[
             subject = f"  {printable(whose[tbs])}" if tbs in whose else ""
             lines.append(f"{tbs} in the file alone{subject}")
     return [f"  {'carried':<11} {line}" for line in lines]
+
+
+def beside_lines(one: Request, last: Optional[Request]) -> list[str]:
+    """A request's image beside that of the request of the same name that was signed last."""
+    if last is None:
+        return ["  before      no signed request of this name is among the last ones"]
+    lines = [f"  before      {titled(last)}",
+             f"  length      {one.length:,} bytes, before {last.length:,}"]
+    now, then = generations(one.components), generations(last.components)
+    for name in dict.fromkeys([*then, *now]):
+        lines.append(f"  component   {printable(name)} {now.get(name, 'none')}, before"
+                     f" {then.get(name, 'none')}")
+    if one.digest == last.digest:
+        lines.append("  digest      the same image as before")
+    if sorted(one.carried) != sorted(last.carried):
+        lines.append(f"  carried     {counted(len(one.carried), 'certificate')}, before"
+                     f" {len(last.carried)}, not the same")
+    return lines
 
 
 def differences(one: Request, here: Facts, whose: dict[str, str]) -> list[str]:

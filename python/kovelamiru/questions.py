@@ -1,5 +1,5 @@
-"""What is asked before a vote, a withdrawal, a return, a drop, an unlisting or a proposal, in the
-words of page/wire/questions.json."""
+"""What is asked before a submission, a vote, a withdrawal, a return, a drop, an unlisting or a
+proposal, in the words of page/wire/questions.json."""
 from __future__ import annotations
 
 from typing import Collection, Optional, Sequence
@@ -25,6 +25,15 @@ def rule_words(rule: dict[str, object], would: bool = False) -> str:
 def plain_question(name: str, number: int) -> list[str]:
     """Before a vote of no, a withdrawal or a drop: `name` is one of these."""
     return [QUESTIONS[name]["plain"].format(number=number)]
+
+
+def twice_question(own: Sequence[Request], file: str) -> Optional[str]:
+    """Before a file that the same person submitted before, as a request that was open or approved,
+    or that was signed."""
+    for one in reversed(own):
+        if one.file == file and one.state in ("open", "approved", "signed"):
+            return QUESTIONS["submit"]["twice"].format(number=one.number, state=one.state)
+    return None
 
 
 def yes_question(one: Request, now: Standing, another: bool = False) -> dict[str, str]:

@@ -12,6 +12,7 @@ from .arguments import Word, number_word, word
 from .run import Run
 from .settings import config_path
 
+Row = Sequence[object]
 Values = Iterator[dict[str, Any]]
 
 
@@ -88,12 +89,14 @@ def print_all(run: Run, values: Iterable[dict[str, Any]]) -> None:
 
 
 def show(run: Run, of: List, heads: Sequence[str], stretch: int,
-         row: Callable[[dict[str, Any]], Sequence[object]], spare: Optional[int] = None) -> None:
-    """A table of those that the words name, or their JSON."""
+         row: Callable[[dict[str, Any]], Row], spare: Optional[int] = None,
+         grouped: Callable[[list[Row]], list[Row]] = list) -> None:
+    """A table of those that the words name, on a terminal in groups, or their JSON."""
     if run.words.json:
         print_all(run, taken(run, of))
         return
     rows = [row(value) for value in taken(run, of)]
-    run.terminal.table(heads, rows, stretch, none_words(run, of), spare, paged=True)
+    run.terminal.table(heads, grouped(rows) if run.terminal.wide else rows, stretch,
+                       none_words(run, of), spare, paged=True)
     if run.terminal.wide and len(rows) == run.words.limit and run.words.sort == "number":
         run.terminal.note(f"--from {int(str(rows[-1][0])) + 1} goes on behind these.")

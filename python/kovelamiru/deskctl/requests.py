@@ -1,26 +1,23 @@
-"""The commands of requests: submit, requests, request, wait, withdraw."""
+"""The commands of requests: requests, request, wait, withdraw."""
 from __future__ import annotations
 
-import hashlib
 import math
 import time
 from typing import Any, Optional
 
-from ..answers import Request, me_of, request_of, said_number, shaped
-from ..described import LIMITS, WORDS
+from ..answers import Request, me_of, request_of, shaped
+from ..described import WORDS
 from ..desk import LONGEST_PAUSE
 from ..facts import gap_words
 from ..faults import LOST, REFUSED, Lost, Stop, wrong
-from ..files import IMAGE_LIMIT, read_file
 from ..http import Call
-from ..pe import has_sbat
 from ..questions import plain_question, rule_words
 from ..search import request_matches
 from ..standing import barred_by, standing_of
+from ..titles import group_of
 from ..words import printable
-from .listing import List, show
-from .run import OTHER_DESK, Replies, Run, act
-from .verdicts import body_causes, verdict_causes
+from .listing import List, Row, show
+from .run import OTHER_DESK, Run, act
 
 ALL = List(
     "/requests", "submitter", request_matches,
@@ -44,37 +41,31 @@ def state_of(run: Run, number: int) -> list[str]:
     return [f"Request {number} is {request.state}."]
 
 
-def submit(run: Run) -> None:
-    path, title = run.words.file, ascii_text(run.words.title, "title", 1, LIMITS["title"])
-    if title != title.strip():
-        wrong("a title can't begin or end with a space")
-    data = read_file(path, IMAGE_LIMIT, "an image has")
-    whole = hashlib.sha256(data).hexdigest()
-    call = Call("POST", "/requests", data, (("Desk-Title", title),), "submitted",
-                f"submit {path} ({whole}), {title}")
-
-    def show(replies: Replies) -> None:
-        number = said_number(replies[0], "request")
-        run.terminal.say(f"request {number} submitted")
-        run.terminal.say(f"file {whole}")
-        run.terminal.note(
-            f"The desk keeps no image: give the file to the reviewers. `deskctl wait {number}`"
-            " waits for two of them.")
-        if not has_sbat(data):
-            run.terminal.note("It has no .sbat: only its digest or its signer can bar it.")
-
-    act(run, [call], show, causes={
-        **body_causes(path, data), 28: lambda _: verdict_causes(run, path, data)})
-
-
 def request_row(value: dict[str, Any]) -> tuple[object, ...]:
     one = shaped(Request, value)
     votes = " ".join(f"{vote['reviewer']}:{vote['vote']}" for vote in one.votes) or "-"
     return one.number, one.state, one.submitter, votes, one.file, one.title
 
 
+def grouped(rows: list[Row]) -> list[Row]:
+    """Rows whose titles begin alike, below a row for all of them, where the first one stands."""
+    groups: dict[object, list[Row]] = {}
+    for row in rows:
+        groups.setdefault(group_of(str(row[-1])) or row[0], []).append(row)
+    found: list[Row] = []
+    for begin, some in groups.items():
+        if len(some) == 1:
+            found += some
+            continue
+        found.append([*[""] * (len(some[0]) - 1), f"{begin}: {len(some)}"])
+        at = len(str(begin).split())
+        found += [[*row[:-1], "  " + " ".join(str(row[-1]).split()[at:])] for row in some]
+    return found
+
+
 def requests(run: Run) -> None:
-    show(run, ALL, ("NUMBER", "STATE", "SUBMITTER", "VOTES", "FILE", "TITLE"), 5, request_row, 4)
+    show(run, ALL, ("NUMBER", "STATE", "SUBMITTER", "VOTES", "FILE", "TITLE"), 5, request_row, 4,
+         grouped)
 
 
 NEXT = {

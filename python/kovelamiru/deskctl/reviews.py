@@ -3,17 +3,21 @@ from __future__ import annotations
 
 from typing import Any, Optional, Sequence
 
-from ..answers import Request, me_of, request_of, titled
+from ..answers import Request, me_of, request_of, shaped, titled
+from ..compare import beside_lines
 from ..described import LIMITS
 from ..faults import Causes, Refused
 from ..http import Call
 from ..questions import plain_question, yes_question
 from ..standing import standing_of
+from ..titles import name_of
 from ..waiting import yes_words
 from ..words import counted, desk_json, printable
 from .requests import NEXT, another_file, ascii_text, state_of
 from .run import One, Run, act_each
 
+# So many parts of the list are looked through for what was signed before, of so many requests each.
+PARTS, PART = 5, 1000
 OWN_REQUEST = "You submitted it yourself: the desk takes votes of other reviewers alone."
 
 
@@ -48,9 +52,37 @@ def doubts_of(run: Run, requests: Sequence[Request]) -> tuple[bool, list[list[st
     return forced, found
 
 
-def shown(run: Run, one: Request) -> None:
-    run.terminal.note(f"{printable(titled(one))}, of {printable(one.submitter)}, {yes_words(one)}")
-    run.terminal.note(f"  file        {one.file}")
+def last_signed(run: Run, some: Sequence[Request]) -> dict[str, Request]:
+    """Of each name among these the request that was signed last, as far as the parts of the list
+    have it that come before; none at a desk without parts."""
+    wanted, found = {name_of(one.title) for one in some}, dict[str, Request]()
+    end = max(one.number for one in some)
+    for first in range(end - PART + 1, end - PARTS * PART, -PART):
+        try:
+            part = list(run.desk.items(f"/requests/from/{max(first, 1)}"))
+        except Refused as refused:
+            if refused.number != 53:
+                raise
+            break
+        for value in reversed(part):
+            one = shaped(Request, value)
+            name = name_of(one.title)
+            if one.state == "signed" and name in wanted:
+                found.setdefault(name, one)
+        if first <= 1 or wanted <= set(found):
+            break
+    return found
+
+
+def show_all(run: Run, some: Sequence[Request]) -> None:
+    """Each request with its image's facts, beside those of the last signed one of its name."""
+    before = last_signed(run, some)
+    for one in some:
+        run.terminal.note(
+            f"{printable(titled(one))}, of {printable(one.submitter)}, {yes_words(one)}")
+        for line in [f"  file        {one.file}",
+                     *beside_lines(one, before.get(name_of(one.title)))]:
+            run.terminal.note(line)
 
 
 def review_asks(run: Run, numbers: Sequence[int]) -> list[str]:
@@ -60,8 +92,7 @@ def review_asks(run: Run, numbers: Sequence[int]) -> list[str]:
     doubts = each[0]
     question = "Vote all the same? Type yes:" if forced else "Is that meant? Type yes:"
     if len(found) > 1:
-        for one in found:
-            shown(run, one)
+        show_all(run, found)
         doubts = [f"request {one.number}: {line}" for one, lines in zip(found, each)
                   for line in lines]
         question = f"Vote {run.words.vote} on these {counted(len(found), 'request')}? Type yes:"

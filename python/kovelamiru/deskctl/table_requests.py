@@ -5,22 +5,26 @@ from ..described import LIMITS, WORDS
 from .arguments import Command, number_word, seconds_word, word
 from .facts import compare, facts
 from .listing import list_words
-from .requests import ALL, request, requests, submit, wait, withdraw
+from .requests import ALL, request, requests, wait, withdraw
 from .returns import give_back
 from .reviews import review
+from .submits import submit
 from .verdicts import verdict
 
 STATES = tuple(WORDS["requests"])
 NUMBER = word("number", metavar="N", type=number_word, help="the request's number")
 REQUESTS: tuple[Command, ...] = (
-    Command("submit", "Requests", "FILE --title T", "ask for the signature of an EFI image", submit,
-            (word("file", metavar="FILE", help="the image"),
+    Command("submit", "Requests", "FILE.. --title T", "ask for signatures of EFI images", submit,
+            (word("files", metavar="FILE", nargs="+", help="the images, a request each"),
              word("--title", metavar="T", required=True,
                   help=f"1 to {LIMITS['title']} characters of ASCII")),
             "submitters and reviewers",
             ("Prints the request's number and the file's SHA-256. The desk keeps the image's facts"
              " and not the image: reviewers and the signer get the file from you, and compare that"
-             " SHA-256."), "deskctl submit shimx64.efi --title 'shim 16.1-1 amd64'"),
+             " SHA-256. Of several files each title has the file's architecture behind it, and what"
+             " distinguishes its name: linux 6.12.118-1 arm64 cloud. On a terminal it asks before a"
+             " file that you submitted before."),
+            "deskctl submit shimx64.efi --title 'shim 16.1-1 amd64'"),
     Command(
         "requests", "Requests", "[--state S] [--mine] [--search TEXT]",
         "list the requests that you may see", requests,
