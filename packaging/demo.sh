@@ -35,8 +35,9 @@ for person in $people; do
     "$program" person desk.db "$name" "${person#*/}" "demo-$name" < "$name.token" > added
 done
 
-hold 2
-port=${ports% *}
+hold 3
+port=${ports%% *}
+others=${ports#* }
 serve desk.db 1000000 0
 
 # ---- what happened at it so far
@@ -120,7 +121,8 @@ as otto /imports/csv @revocations.csv -H "Desk-Stamp: ${day}02"
 
 # proxies PORT: whether nginx serves the page and the desk at this port.
 proxies() {
-    sed "s|server 127\.0\.0\.1:[0-9]*;|server 127.0.0.1:$port;|
+    sed "s|127\.0\.0\.1:880;|127.0.0.1:$port;|
+         s|127\.0\.0\.1:881;|127.0.0.1:${others#* };|
          s|listen 443 ssl;|listen 127.0.0.1:$1;|
          /listen \[::\]:443 ssl;/d
          /^ *ssl_/d
@@ -149,7 +151,7 @@ proxies() {
 }
 address=8088
 if ! proxies "$address"; then
-    address=${ports#* }
+    address=${others% *}
     proxies "$address" || fail "nginx: $(cat nginx.err)"
 fi
 

@@ -107,7 +107,7 @@ def test_desk_1_and_the_examples_have_the_port_of_the_service(package: Package, 
     assert f"at port {port} of 127.0.0.1" in page
     examples = f"usr/share/doc/{NAME}/examples"
     assert f"server 127.0.0.1:{port};" in package.text(f"{examples}/nginx.conf")
-    assert f" dport {port} " in package.text(f"{examples}/desk.nft")
+    assert f" dport {{ {port}, 881 }} " in package.text(f"{examples}/desk.nft")
 
 
 @pytest.mark.parametrize("typed, wanted", [

@@ -17,6 +17,7 @@ from checks.support.wire import REFUSALS
 
 LEVEL = b"sbat,1,2021030218\n"
 STRICT = "Strict-Transport-Security: max-age=63072000"
+NOSNIFF = "X-Content-Type-Options: nosniff"
 # The body is sent at once, without asking first.
 AT_ONCE = ("-H", "Expect:")
 PEOPLES = f"people.{SITE}"
@@ -46,8 +47,8 @@ class Answer(NamedTuple):
     fields: str
 
     def strictly(self) -> None:
-        """It forbids HTTP without TLS."""
-        assert STRICT in self.fields.splitlines(), self.fields
+        """It forbids HTTP without TLS, and to be taken for a script."""
+        assert {STRICT, NOSNIFF} <= {*self.fields.splitlines()}, self.fields
 
 
 class Site:

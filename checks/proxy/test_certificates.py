@@ -71,6 +71,21 @@ def test_a_page_of_another_origin_can_send_no_command(people: Site) -> None:
     expect(found[:2], refusal(54), "a preflight")
 
 
+def test_a_page_of_another_site_is_told_nothing(people: Site) -> None:
+    """By no script, frame, picture or request; a link leads to the page."""
+    def found(path: str, site: str, what: str) -> int:
+        fields = ("-H", f"Sec-Fetch-Site: {site}", "-H", f"Sec-Fetch-Dest: {what}")
+        return people.show("olga", path, *fields).status
+
+    for site in ("cross-site", "same-site"):
+        for path in ("/level", "/proposals/1", "/", "/page/main.js"):
+            for what in ("script", "empty", "iframe", "image"):
+                assert found(path, site, what) == 403, (path, site, what)
+        assert (found("/", site, "document"), found("/level", site, "document")) == (200, 403)
+    for site in ("same-origin", "none"):
+        assert (found("/", site, "document"), found("/level", site, "empty")) == (200, 200)
+
+
 def test_a_closed_site_for_people_answers_none(people: Site) -> None:
     (people.room / "kovelamiru-people.closed").touch()
     assert people.show("olga", "/level").status == 503

@@ -22,8 +22,8 @@ def proposed(number: int, reply: str = "proposed") -> dict[str, object]:
 
 
 def test_each_call_of_a_day_is_answered(proxied: Proxied) -> None:
-    """Each request takes two connections of the desk, a stranger's one."""
-    site = proxied(27)
+    """Each with a body takes two connections of the desk, another one, as a stranger's."""
+    site = proxied(25)
     title, chunked = ("-H", "Desk-Title: a loader"), ("-H", "Transfer-Encoding: chunked")
     submitted = {"reply": "submitted", "request": 1}
     for _ in range(2):
@@ -64,7 +64,7 @@ def test_what_is_acknowledged_stays_where_the_desk_is_stopped(
     assert site.post(*confirm).status == 502
     for who in ("nobody", "olga"):
         assert site.ask(who, "/level").status == 502
-    with Server(desk, site.path, 4) as again:
+    with Server(desk, site.path, 3) as again:
         site.nginx.desk_port = again.port
         site.nginx.write()
         site.nginx.reload()

@@ -18,11 +18,13 @@ PEERS: dict[str, tuple[Callable[[int], list[str]], bool]] = {
         lambda one: x_peer(f"::ffff:192.0.2.{one}"), False
     ),
 }
+# The paths of somebody's commands, from how many addresses they come, and how often. (One that is
+# answered counts a moment longer as under way.)
 COMMANDS = {
-    "oscar": (
+    "oscar": ((
         "/dbx/digests", "/dbx/certificates", "/level", "/imports/csv", "/proposals/1/confirm"
-    ),
-    "ann": ("/requests",),
+    ), 4, 39),
+    "ann": (("/requests",), 1, 600),
 }
 
 
@@ -33,30 +35,30 @@ def x_peer(address: str) -> list[str]:
 
 @pytest.mark.parametrize("name", PEERS)
 def test_a_flood_of_one_peer_is_refused(site: Site, name: str) -> None:
-    """150 requests: at most 60 of one peer wait for their turn."""
+    """150 requests of strangers: at most 60 of one peer wait for their turn."""
     peer, refused = PEERS[name]
-    words = ["-H", f"Desk-Token: {token('ann')}", "-Z", "--parallel-max", "10", "-o", "/dev/null"]
-    url = f"{site.nginx.base}/level?[1-10]"
+    words = ["-Z", "--parallel-max", "10", "-o", "/dev/null"]
+    url = f"{site.nginx.base}/level#[1-10]"
     counts = site.flood([[*words, *peer(one), url] for one in range(1, 16)])
-    assert sum(counts.values()) == 150 and set(counts) <= {404, 429}, counts
-    assert (429 in counts) == refused and 404 in counts, counts
+    assert sum(counts.values()) == 150 and set(counts) <= {401, 429}, counts
+    assert (429 in counts) == refused and 401 in counts, counts
     site.statuses |= set(counts)
     expect(site.ask("olga", "/level")[:2], (200, LEVEL), "another peer")
 
 
 @pytest.mark.parametrize("who", COMMANDS)
 def test_a_token_has_so_many_commands(site: Site, who: str) -> None:
-    """780 from 26 addresses: 500 are taken at once, and then one in six seconds. The desk refuses
-    each, since it has no key."""
-    paths = COMMANDS[who]
-    urls = [f"{site.nginx.base}{path}#[1-{30 // len(paths)}]" for path in paths]
+    """500 of them are taken at once, and then one in six seconds. The desk refuses each, since it
+    has no key."""
+    paths, count, often = COMMANDS[who]
+    urls = [f"{site.nginx.base}{path}#[1-{often}]" for path in paths]
     words = ["-H", f"Desk-Token: {token(who)}", "-d", "x"]
     words += [word for url in urls for word in ("-o", "/dev/null", url)]
-    clients = [["--interface", f"127.0.0.{one}", *words] for one in range(101, 127)]
+    clients = [["--interface", f"127.0.0.{one}", *words] for one in range(101, 101 + count)]
     counts = site.flood(clients)
     taken = counts.get(400, 0)
-    assert set(counts) == {400, 429} and sum(counts.values()) == 780, counts
-    assert 480 <= taken <= 700, counts
+    assert set(counts) == {400, 429} and sum(counts.values()) == often * count * len(paths), counts
+    assert 480 <= taken <= 580, counts
     found = [site.ask(who, "/requests/1/withdraw", "-d", "x").status for _ in range(3)]
     assert found[-1] == 429, found
     expect(site.ask("rita", "/requests", "-d", "x")[:2], refusal(51), "another token")

@@ -124,7 +124,9 @@ def idle(port: int) -> bool:
 
 def client(site: Site, number: int) -> None:
     """At an address of its own: the level, and a verdict."""
-    words = ("--interface", f"127.0.0.{number + 2}", "-H", f"Desk-Token: {token('ann')}")
+    words = ["--interface", f"127.0.0.{number + 2}", "-H", f"Desk-Token: {token('ann')}"]
+    # (a token has so many at once)
+    words += ["--retry", "60", "--retry-delay", "1"]
     level = site.curl([*words, f"{site.nginx.base}/level"])
     given = ("--data-binary", f"@{site.room / 'signed'}")
     verdict = site.curl([*words, *given, f"{site.nginx.base}/verdict"])
@@ -136,7 +138,7 @@ def test_behind_it_thirty_are_answered_beside_slow_ones(
     desk: Program, long_desk: str, proxied: Proxied
 ) -> None:
     path = copy_of(long_desk, desk.at("desk.db"))
-    site = proxied(2 * (2 * CLIENTS + 2), path=path)
+    site = proxied(3 * CLIENTS + 3, path=path)
     (site.room / "signed").write_bytes(SIGNED)
     slow = [Slow(how, site.nginx.port, site.room / "site.pem") for how in ("sends", "takes")]
     # (before its own limit of half a minute would end one)

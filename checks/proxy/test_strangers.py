@@ -1,12 +1,16 @@
 """What a stranger gets, what is too long, and what a closed site and that of maintenance say."""
 from __future__ import annotations
 
+import json
+
 import pytest
 
 from checks.proxy.site import AT_ONCE, LEVEL, Proxied, Site, refusal
 from checks.support.images import digest
+from checks.support.messages import token
 from checks.support.says import expect
 from checks.support.steps import named
+from checks.support.tools import ROOT
 
 MOST_IMAGE, MOST_BODY = 134_217_728, 4_194_304
 
@@ -44,8 +48,39 @@ def test_each_response_forbids_http_without_tls(site: Site) -> None:
     for who, path, words in (
         ("olga", "/", ()), ("olga", "/page/main.js", ()), ("olga", "/level", ()),
         ("olga", "/nowhere", ()), ("nobody", "/level", ()), ("olga", "/level", ("-X", "PUT")),
+        ("olga", "/no-where", ()),
     ):
         site.ask(who, path, *words).strictly()
+
+
+def test_each_file_of_the_page_is_there(site: Site) -> None:
+    """Each has a name that the logs take for no token."""
+    files = [one for one in (ROOT / "page").rglob("*") if one.suffix in (".js", ".css", ".html")]
+    words = []
+    for one in files:
+        words += ["-o", "/dev/null", f"{site.nginx.base}/{one.relative_to(ROOT)}"]
+    assert len(files) > 50
+    expect(site.flood([words]), {200: len(files)}, "its files")
+
+
+def test_each_path_of_the_desks_goes_to_it(site: Site) -> None:
+    paths = json.loads((ROOT / "page/wire/openapi.json").read_text())["paths"]
+    assert len(paths) > 30
+    for path in paths:
+        found = site.ask("olga", path.replace("{no}", "100000"))
+        assert not found.body.startswith(b"<html>"), (path, found)
+
+
+def test_a_token_in_a_path_is_in_no_log(site: Site) -> None:
+    """Also where it is refused as one of too many; the fixture looks."""
+    text = token("ann")
+    paths = (text, f"page/{text}", f"page/views/{text}.js", f"level?{text}", f"level%2F{text}",
+             f"requests/{text}/review", f"%6Cevel/{text}")
+    for path in paths:
+        expect(site.ask("olga", f"/{path}").status, 404, path)
+    words = ["-Z", "--parallel-max", "10", "-o", "/dev/null"]
+    clients = [[*words, f"{site.nginx.base}/{path}#[1-30]"] for path in paths]
+    expect(set(site.flood(clients)), {404}, "many")
 
 
 def test_a_closed_site_answers_nobody_and_keeps_nothing(site: Site) -> None:

@@ -3,10 +3,11 @@ from __future__ import annotations
 
 import pytest
 
-from checks.proxy.site import LEVEL, Answer, Site, refusal
+from checks.proxy.site import LEVEL, Answer, Proxied, Site, refusal, with_oscar
 from checks.support.images import digest
-from checks.support.messages import token
+from checks.support.messages import request, token
 from checks.support.nginx import SITE
+from checks.support.program import Program, copy_of
 from checks.support.says import expect
 from checks.support.steps import named
 
@@ -60,6 +61,20 @@ def test_of_two_fields_the_one_that_is_asked_about_is_sent(leaked: Site, second:
 def test_other_bytes_about_a_good_token_make_it_none(leaked: Site, form: str) -> None:
     """So nobody has a count for each form."""
     expect(sends(leaked, "/level", ("Desk-Token", form.format(GOOD)))[:2], refusal(20), form)
+
+
+@pytest.mark.parametrize("mark", ('"', "\\"))
+def test_a_token_that_the_list_cannot_name_is_nobodys(
+    desk: Program, proxied: Proxied, mark: str
+) -> None:
+    """Though the desk knows it: else it would stay good once it leaks."""
+    path = copy_of(with_oscar(desk, "marks.db"), desk.at("desk.db"))
+    given = f"quoted{mark}E-token-of-otto"
+    desk.gives("person", path, "quoted", "officer", "k-quoted", given=f"{given}\n".encode())
+    site = proxied(path=path)
+    asked = request("GET", "/level", [("Desk-Token", given)])
+    assert b" 200 OK" in site.server.ask(asked)
+    expect(sends(site, "/level", ("Desk-Token", given))[:2], refusal(20), given)
 
 
 def test_a_backup_of_the_list_is_not_read(leaked: Site) -> None:

@@ -76,8 +76,8 @@ class Machine:
     def __init__(self, program: Path, room: Path) -> None:
         self.program, self.room = str(program), room / "machine"
         self.users, self.repository = accounts(room), reachable(room)
-        self.held = [Held() for _ in range(3)]
-        self.port, self.proxy, self.back = (one.port for one in self.held)
+        self.held = [Held() for _ in range(4)]
+        self.port, self.proxy, self.back, self.counted = (one.port for one in self.held)
         self.shells: dict[str, Shell] = {}
         self.tokens: dict[str, str] = {}
         self.keys, self.told = 0, ""
@@ -222,7 +222,8 @@ class Machine:
     def site(self, name: str) -> str:
         """A site of packaging/ without its TLS, at this machine's ports."""
         site = (self.repository / "packaging" / name).read_text()
-        site = re.sub(r"server 127\.0\.0\.1:\d+;", f"server 127.0.0.1:{self.port};", site)
+        for port, here in ((880, self.port), (881, self.counted)):
+            site = site.replace(f"127.0.0.1:{port};", f"127.0.0.1:{here};")
         site = re.sub(r"^ *(ssl_|listen \[).*\n", "", site, flags=re.M)
         for port, here in ((443, self.proxy), (8444, self.back)):
             site = site.replace(f"listen {port} ssl;", f"listen 127.0.0.1:{here};")

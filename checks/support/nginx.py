@@ -25,7 +25,8 @@ PLACES = {
     )
     for name, port, whose, more in (
         ("nginx.conf", 443, "", (
-            "server 127.0.0.1:880;", "include /etc/nginx/kovelamiru-desk.leake[d];",
+            "server 127.0.0.1:880;", "server 127.0.0.1:881;", "listen 127.0.0.1:881;",
+            "include /etc/nginx/kovelamiru-desk.leake[d];",
             "-e /etc/nginx/kovelamiru-desk.closed)",
         )),
         ("nginx-certificates.conf", 8443, "people.", (
@@ -52,8 +53,8 @@ def make_certificate(room: Path) -> None:
 
 class Nginx:
     """nginx before a desk's port. `tls` keeps the packaged TLS; without, the site listens in plain
-    HTTP, for browsers. `port` is that of the site (443), `own` and `back` those of 8443 and
-    8444."""
+    HTTP, for browsers. `port` is that of the site (443), `own` and `back` those of 8443 and 8444,
+    `counted` that of 881."""
 
     def __init__(
         self, room: Path, desk_port: int, sites: Sequence[str] = ("nginx.conf",), tls: bool = False,
@@ -63,8 +64,8 @@ class Nginx:
         self.room, self.desk_port, self.more = room, desk_port, more
         self.sites, self.tls = sites, tls
         self.room.mkdir(parents=True, exist_ok=True)
-        self.held = [Held() for _ in range(3)]
-        self.port, self.own, self.back = (one.port for one in self.held)
+        self.held = [Held() for _ in range(4)]
+        self.port, self.own, self.back, self.counted = (one.port for one in self.held)
         self.process: subprocess.Popen[bytes] | None = None
 
     def __enter__(self) -> Nginx:
@@ -99,7 +100,8 @@ class Nginx:
             if site.count(place) != 1:
                 fail(f"packaging/{name} has no place for {place}, or two")
         site = re.sub(r"(?m)^ *listen \[::\]:\d+.*\n", "", site)
-        site = re.sub(r"127\.0\.0\.1:880;", f"127.0.0.1:{self.desk_port};", site)
+        for port, here in ((880, self.desk_port), (881, self.counted)):
+            site = site.replace(f"127.0.0.1:{port};", f"127.0.0.1:{here};")
         if not self.tls:
             site = re.sub(r"(?m)^ *ssl_.*\n", "", site).replace(" ssl;", ";")
         # (the system keeps so little of a response on its way to a peer that nginx has to)
