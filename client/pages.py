@@ -40,7 +40,13 @@ An option comes before the environment, and that before the file `~/.config/desk
     token-file = desk.token
     name = olga
 
-Its other names are `ca`, `cert`, `key` and `program`; paths are relative to the file. With https
+    [staging]
+    url = https://desk.staging.example.org
+    token-file = staging.token
+
+Its other names are `ca`, `cert`, `key` and `program`; paths are relative to the file. `--desk
+staging`, or DESKCTL_DESK, takes that section alone: nothing of `[desk]`, nor of DESK_URL and its
+like. With https
 the desk's certificate has to be one that the system trusts, or one of `--ca`. Without TLS deskctl
 asks only a desk on this machine, unless `--insecure-http` is given.
 
@@ -140,7 +146,8 @@ FILES = (("~/.config/deskctl.conf",
            " moves it.")))
 ENVIRONMENT = (
     ("DESK_URL, DESK_TOKEN_FILE, DESK_CA, DESK_CERT, DESK_CERT_KEY, DESK_NAME, DESK_PROGRAM",
-     "As the options of these names."), ("DESK_TOKEN", "Not read."),
+     "As the options of these names, where no desk is named by its section."),
+    ("DESKCTL_DESK", "As `--desk`."), ("DESK_TOKEN", "Not read."),
     ("PAGER", "Shows a long list of requests or proposals on a terminal; `cat`, or empty: none."))
 EXAMPLES = """\
 A build system asks for a signature, and waits a day for it:

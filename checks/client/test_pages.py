@@ -66,7 +66,7 @@ COMPLETED = [
     ("review 1 2 n", ["no"]),
     ("requests --sort ", ["number", "newest", "title"]),
     ("proposals --sort n", ["number", "newest"]),
-    ("get d", ["dbx", "db"]), ("import --d", ["--dry-run"]),
+    ("get d", ["dbx", "db"]), ("import --d", ["--dry-run", "--desk"]),
 ]
 
 

@@ -8,6 +8,7 @@ import subprocess
 
 import pytest
 
+from checks.support.between import Between
 from checks.support.deskctl import Office
 from checks.support.images import PLAIN, digest, sha256
 from checks.support.messages import token
@@ -111,6 +112,26 @@ def settings(office: Office, text: str) -> None:
     folder = office["olga"].folder / ".config"
     folder.mkdir(exist_ok=True)
     (folder / "deskctl.conf").write_text(text, encoding="ascii")
+
+
+def test_a_desk_is_named_by_its_section_alone(office: Office, between: Between) -> None:
+    """No other section's token, and none of the environment, goes to it."""
+    olga, url = office["olga"], office["olga"].env["DESK_URL"]
+    other = f"[desk]\nurl = {between.url}\ntoken-file = ../token\n"
+    named = f"{other}[prod]\nurl = {url}\ntoken-file = ../token\n[bare]\nurl = {between.url}\n"
+    settings(office, named)
+    olga.env["DESK_URL"] = between.url
+    olga.does("report --desk prod")
+    expect(between.seen, [], "what goes to another desk")
+    office.refuses("olga", "report --desk bare", "who calls isn't said")
+    office.refuses("olga", "report --desk none", "there is no desk none", "desk, prod, bare.")
+    office.refuses("olga", f"report --desk prod --url {url}", "--desk and --url both name a desk")
+    olga.env["DESKCTL_DESK"] = "prod"
+    olga.does("report")
+    expect(between.seen, [], "what goes to another desk")
+    olga.does(f"report --url {between.url}")
+    olga.does("report --desk desk")
+    expect(len(between.seen), 2, "what goes to the desk of an option")
 
 
 @pytest.mark.parametrize("text, words", [

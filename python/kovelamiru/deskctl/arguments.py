@@ -89,6 +89,8 @@ class Command:
 
 OPTIONS: tuple[Word, ...] = (
     word("--url", metavar="URL", help="the desk: https://HOST or http://127.0.0.1:PORT (DESK_URL)"),
+    word("--desk", metavar="NAME",
+         help="the desk of this section of the settings, not of [desk] (DESKCTL_DESK)"),
     word("--token-file", metavar="FILE",
          help="your token, in a file that nobody else can read (DESK_TOKEN_FILE)"),
     word("--ca", metavar="FILE",

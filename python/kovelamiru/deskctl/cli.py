@@ -42,7 +42,7 @@ def general_help() -> str:
         f"  {'-h, --help':<20} show this, or the help of a command",
         f"  {'--version':<20} print the version"]
     lines += [
-        "", f"Settings can also stand in {config_hint()}, below [desk]:",
+        "", f"Settings can also stand in {config_hint()}, below [desk], or [NAME] for --desk NAME:",
         "  " + ", ".join(SETTINGS)]
     lines += ["", ONCE, "", "Exit status:"]
     lines += [f"  {status}  {text}" for status, text in STATUSES]

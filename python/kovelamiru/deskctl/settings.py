@@ -15,6 +15,7 @@ from ..faults import Unreadable, reason, wrong
 from ..files import BODY_LIMIT, Exposed, folder_of, is_token, private_line, read_file
 from ..http import Where, address
 from ..terminal import Terminal
+from ..words import printable
 
 Names = argparse.Namespace
 
@@ -32,6 +33,8 @@ class Settings:
     retries: int
 
 
+# The section of the desk that needs no name.
+DESK = "desk"
 SETTINGS = ("url", "token-file", "ca", "cert", "key", "name", "program")
 
 
@@ -40,19 +43,30 @@ def config_path() -> str:
                                                           "deskctl.conf")
 
 
-def read_config() -> dict[str, str]:
-    """The section [desk] of the configuration; paths are relative to the file."""
-    path = config_path()
+def read_sections(path: str) -> configparser.ConfigParser:
+    """The configuration, which may not be there."""
     parser = configparser.ConfigParser(interpolation=None)
     try:
         with open(path, encoding="utf-8") as lines:
             parser.read_file(lines)
     except FileNotFoundError:
-        return {}
+        pass
     except (OSError, UnicodeDecodeError, configparser.Error) as error:
         wrong(f"{path}: {' '.join(reason(error).split())}",
-              "It has a section [desk] of lines NAME = VALUE.")
-    found = dict(parser["desk"]) if parser.has_section("desk") else {}
+              "It has a section [desk] of lines NAME = VALUE, and one for each further desk.")
+    return parser
+
+
+def read_config(desk: str) -> dict[str, str]:
+    """The section of a desk in the configuration, which has to be there if it isn't [desk]; paths
+    are relative to the file."""
+    path = config_path()
+    parser = read_sections(path)
+    if desk != DESK and not parser.has_section(desk):
+        names = ", ".join(map(printable, parser.sections())) or "none"
+        wrong(f"{path}: there is no desk {printable(desk)}",
+              f"A desk is a section, [{printable(desk)}]. There: {names}.")
+    found = dict(parser[desk]) if parser.has_section(desk) else {}
     for name in found:
         if name == "token":
             wrong(f"{path}: a token stands in a file of its own",
@@ -66,12 +80,17 @@ def read_config() -> dict[str, str]:
 
 
 def settings_of(words: Names) -> Settings:
-    """Options come before the environment, and that before the configuration."""
-    config = read_config()
+    """Options come before the environment, and that before the configuration. Where a desk is
+    named, the environment's DESK_URL and its like, which may be another's, don't count."""
+    desk, url = getattr(words, "desk", None), getattr(words, "url", None)
+    if desk and url:
+        wrong("--desk and --url both name a desk", "Give one of them.")
+    desk = desk or (None if url else os.environ.get("DESKCTL_DESK"))
+    config = read_config(desk or DESK)
 
-    def one(name: str, variable: str = "") -> Optional[str]:
+    def one(name: str, variable: str) -> Optional[str]:
         given = getattr(words, name.replace("-", "_"), None)
-        return given or (os.environ.get(variable) if variable else None) or config.get(name) or None
+        return given or (None if desk else os.environ.get(variable)) or config.get(name) or None
 
     return Settings(url=one("url", "DESK_URL"), token_file=one("token-file", "DESK_TOKEN_FILE"),
                     ca=one("ca", "DESK_CA"), cert=one("cert", "DESK_CERT"),
@@ -92,7 +111,8 @@ def where_of(settings: Settings) -> Where:
     `localhost` means without TLS."""
     if not settings.url:
         wrong("no desk is named",
-              f"Give --url URL, or DESK_URL, or `url = URL` in {config_path()} below [desk].",
+              f"Give --url URL, or DESK_URL, or `url = URL` in {config_path()} below [desk]; or"
+              " --desk NAME of a section there.",
               "deskctl --help has the first steps.")
     try:
         where = address(settings.url)
