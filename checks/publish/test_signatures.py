@@ -6,7 +6,7 @@ import re
 
 import pytest
 
-from checks.publish.place import Place, number
+from checks.publish.place import Place, made_certificate, number
 from checks.support.says import expect
 from checks.support.steps import named
 from checks.support.tools import ran
@@ -90,6 +90,24 @@ def test_a_time_that_is_none_is_refused(news: Place) -> None:
     says = "refused signature: firmware would refuse what dbx was signed as: its time is none"
     news.publish(1, says, "--sign", news.script("zone", zone))
     news.shows(11)
+
+
+OURS = ("--kek", "KEK.pem")
+
+
+def test_an_update_is_signed_by_the_key_that_is_named(news: Place) -> None:
+    """For its own variable."""
+    news.publish(2, "--kek goes with --sign", *OURS)
+    made_certificate(news.room, "other")
+    says = "refused signature: firmware would refuse what dbx was signed as: no certificate of {} "
+    news.publish(1, says.format("other.pem"), "--sign", "./sign", "--kek", "other.pem")
+    swaps = news.script("swaps", """[ "$1" = db ] && name=dbx || name=db
+exec "${0%/*}"/sign $name "$2" "$3\"""")
+    news.publish(1, says.format("KEK.pem"), "--sign", swaps, *OURS)
+    news.shows(11)
+    news.publish(0, "calls 12: published", "--sign", "./sign", *OURS)
+    news.proposes("olga", "/dbx/digests", named(number(10)))
+    news.publish(0, "calls 13: published", "--sign", dated(news, "appends", "-a"), *OURS)
 
 
 def test_an_update_that_only_appends_needs_no_time(news: Place) -> None:

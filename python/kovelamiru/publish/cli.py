@@ -60,7 +60,8 @@ Nothing is published, and the line on standard error begins with `desk-publish: 
   level       a generation or the stamp is below the published one
   shim        shim-dbx.esl, read again, doesn't revoke what dbx does
   signature   the signing command failed; or firmware wouldn't take what it made: it doesn't end with
-              the list, its time isn't after that of the update before, or is ahead of the clock
+              the list, its time isn't after that of the update before, or is ahead of the clock; or
+              no key of --kek signed it for that variable
 """
 MORE = """\
 FOLDER alone shows an older copy of a desk, but not one that was restored together with it: that
@@ -148,6 +149,8 @@ def publish(words: argparse.Namespace, link: str) -> str:
 # The options but for those that say where the desk is, and who reads it.
 OPTIONS: tuple[tuple[str, dict[str, Any]], ...] = (
     ("--sign", {"metavar": "COMMAND", "help": "makes an authenticated update of each list"}),
+    ("--kek", {"metavar": "FILE", "help": "the certificates of which one signs each update, in PEM; with"
+               " --sign, and openssl(1)"}),
     ("--consent", {"metavar": "FILE", "help": "a change of db takes a second officer's line, signed"
                    " in FILE.sig; with --signers"}),
     ("--signers", {"metavar": "FILE", "help": "whose keys sign consent: lines `NAME KEY`"}),
@@ -186,6 +189,8 @@ def words_of(arguments: list[str]) -> argparse.Namespace:
         words.sign = os.path.abspath(words.sign)
     if bool(words.consent) != bool(words.signers):
         parser.error("--consent and --signers go together")
+    if words.kek and not words.sign:
+        parser.error("--kek goes with --sign")
     if words.witness and not words.key:
         parser.error("--witness takes --key: a checkpoint that nobody signed is anybody's")
     if words.keep < 2:

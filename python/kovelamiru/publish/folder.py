@@ -10,14 +10,15 @@ import time
 from typing import NoReturn, Optional
 
 from ..faults import Unreadable, broken
-from ..programs import SIGNING_SECONDS, audited, ran, refused, said_by, signature
+from ..programs import audited, refused, signature
 from ..shim import NAME as SHIM, difference
-from ..update import certificate_length, efi_time
+from ..update import efi_time
 from .desk import LISTS, Found, audit_of, digest
 from .files import read, synced, write
 from .page import Before, Publication, dbx_json, firsts_of, index
 from .rules import db_follows, follows
 from .sums import NAME as SUMS, day, sums_of
+from .updates import update
 
 # What signatures are for, by their namespaces.
 PUBLISH, MINUTES = "kovelamiru-publish", "kovelamiru-checkpoint"
@@ -87,51 +88,6 @@ def swept(link: str, keep: int) -> None:
             shutil.rmtree(os.path.join(os.path.dirname(link), old))
 
 
-def update(command: str, name: str, data: bytes, folder: str) -> bytes:
-    """The authenticated update of a list that the signing command makes, in a folder of its own."""
-    os.mkdir(folder, 0o700)
-    try:
-        given, out = os.path.join(folder, f"{name}.esl"), os.path.join(folder, f"{name}.auth")
-        write(given, data, 0o600)
-        done = ran(f"{command} {name}", [command, name, given, out], SIGNING_SECONDS)
-        if done.returncode != 0:
-            refused("signature", f"{command} {name}: status {done.returncode}: {said_by(done)}")
-        made = read(out) if os.path.lexists(out) else b""
-        if not ends_with(made, data):
-            refused("signature", f"{command} {name}: what it made isn't an update with the list")
-        return made
-    finally:
-        shutil.rmtree(folder)
-
-
-def untimely(made: bytes, name: str, data: bytes, last: Optional[Before]) -> None:
-    """Ends the run where firmware wouldn't take an update for its time, or no later one after it.
-    (UEFI 2.10, section 8.2.2: the time is later than that of the update before, and has no fields
-    but date and time; one that only appends may have none.)"""
-    if not any(made[:16]):
-        return
-    when, was = efi_time(made), last.times.get(f"{name}.auth") if last else None
-    latest = time.strftime("%Y-%m-%d %H:%M:%S", time.gmtime(time.time() + 86400))
-    same = last is not None and getattr(last.found, name) == data
-    odd = ""
-    if when is None or any(made[7:16]):
-        odd = "its time is none"
-    elif when > latest:
-        odd = f"its time {when} is ahead of this clock, and no later update could follow"
-    elif was and (when < was or when == was and not same):
-        odd = f"its time {when} isn't after {was}, that of the update before"
-    if odd:
-        refused("signature", f"firmware would refuse what {name} was signed as: {odd}")
-
-
-def ends_with(made: bytes, data: bytes) -> bool:
-    """Whether it is an authenticated update with these lists."""
-    try:
-        return made[16 + certificate_length(made):] == data
-    except Unreadable:
-        return False
-
-
 def pages(words: argparse.Namespace, files: dict[str, bytes], found: Found, now: int,
           last: Optional[Before]) -> dict[str, bytes]:
     """What people and programs read of these files."""
@@ -157,9 +113,7 @@ def filled(words: argparse.Namespace, link: str, whole: str, now: int, found: Fo
     if words.sign:
         for name, data in (("dbx", found.dbx), ("db", found.db)):
             if data:
-                made = update(words.sign, name, data, f"{link}.sign")
-                untimely(made, name, data, last)
-                files[f"{name}.auth"] = made
+                files[f"{name}.auth"] = update(words, name, data, f"{link}.sign", last)
     files[CHECKPOINT] = (f"owner {words.owner.lower()}\ncalls {found.calls}\n"
                          f"minutes {digest(found.minutes)}\n").encode()
     if words.key:
