@@ -241,11 +241,12 @@ FOLLOWS = ("desk-standby", "copy.db", "copied")
 
 
 def test_desk_standby_reads_by_it(machine: Site) -> None:
-    """(`true` in place of `desk follow`.) A run that was stopped within a line is gone on with."""
+    """A run that was stopped within a line is gone on with."""
     copied, minutes = machine.room / "copied", machine.minutes()
+    said = f"^calls {minutes.count(10)}$"
     for begun in (b"", minutes[:700], minutes):
         copied.write_bytes(begun)
-        read_by(machine, 0, "^$", *FOLLOWS, "--program", "true")
+        read_by(machine, 0, said, *FOLLOWS, "--program", machine.desk.path)
         expect(copied.read_bytes(), minutes, f"the minutes behind {len(begun)} bytes")
 
 

@@ -1,0 +1,73 @@
+"""Checkpoints of minutes (docs/AUDIT.md): which lines they are, by whom signed."""
+from __future__ import annotations
+
+import hashlib
+import re
+from dataclasses import dataclass
+from typing import Iterable, Optional
+
+from .faults import NoAnswer, Unreadable, broken
+from .fetch import fetched
+from .programs import unsigned_by
+
+# What their signatures are for, by their namespaces: of whoever publishes, and of a witness.
+PUBLISHED, WITNESSED = "kovelamiru-checkpoint", "kovelamiru-witness"
+NAME = "checkpoint.txt"
+# How long a site may take, and how much is read of it.
+SECONDS, MOST_BYTES = 30, 4096
+
+
+@dataclass(frozen=True)
+class Checkpoint:
+    owner: str
+    calls: int
+    minutes: str
+
+    def text(self) -> bytes:
+        return f"owner {self.owner}\ncalls {self.calls}\nminutes {self.minutes}\n".encode()
+
+
+def checkpoint_of(data: bytes) -> Checkpoint:
+    found = re.fullmatch(r"owner ([0-9a-f-]{36})\ncalls ([0-9]{1,7})\nminutes ([0-9a-f]{64})\n",
+                         data.decode("ascii", "replace"))
+    if not found:
+        raise Unreadable("it is no checkpoint")
+    return Checkpoint(found[1], int(found[2]), found[3])
+
+
+def sum_of(lines: Iterable[bytes], calls: int) -> str:
+    """The SHA-256 of so many lines; nothing if there are fewer."""
+    found, count = hashlib.sha256(), 0
+    for _, line in zip(range(calls), lines):
+        found.update(line)
+        count += 1
+    return found.hexdigest() if count == calls else ""
+
+
+def at(where: str, ca: Optional[str], program: str) -> bytes:
+    """What is at this URL, or in this file."""
+    if re.match("https?://", where):
+        return fetched(where, ca, program, SECONDS, MOST_BYTES).data()
+    try:
+        with open(where, "rb") as file:
+            return file.read(MOST_BYTES)
+    except OSError as error:
+        raise NoAnswer(f"{where}: {error.strerror}", True) from None
+
+
+def signed_at(where: str, key: str, what: str, ca: Optional[str], program: str) -> Checkpoint:
+    """The checkpoint there that this key signed; Unreadable or NoAnswer, if none did."""
+    data, sign = at(where, ca, program), at(f"{where}.sig", ca, program)
+    said = unsigned_by(key, what, sign, data)
+    if said:
+        raise Unreadable(f"it isn't signed: {said}")
+    return checkpoint_of(data)
+
+
+def key_in(path: str) -> str:
+    """The public key in a file of one line, as ssh-keygen(1) makes it."""
+    try:
+        with open(path, encoding="ascii") as file:
+            return " ".join(file.readline().split()[:2])
+    except (OSError, ValueError) as error:
+        broken(f"the key {path}: {error}")
