@@ -2,14 +2,17 @@
 window's title and at the view's link."""
 from __future__ import annotations
 
+import threading
+
 import pytest
 
 from checks.page.conftest import shots
 from checks.page.looked import looked
 from checks.page.site import Site, unsigned
 from checks.support.browser import Browser
-from checks.support.messages import token
+from checks.support.messages import said, token
 from checks.support.says import expect
+from checks.support.steps import shown
 from checks.support.waits import until
 
 LOOK = "module.look(true).then(({ kind }) => kind)"
@@ -111,3 +114,27 @@ def test_a_barred_image_is_marked_where_it_waits_and_in_the_list(
         browser.sees("to be read, 2 Barred today")
         expect(browser.text().count("Barred today"), 1, f"marks in the view {view}")
     looked(browser, "a list with a mark")
+
+
+def test_what_waits_is_in_the_list_while_that_is_read(browser: Browser, site: Site) -> None:
+    """A large desk's list, of which the second part is late."""
+    goes_on = threading.Event()
+    old = [shown(number, "ann", f"old {number}", "signed", []) for number in range(1, 1001)]
+    new = shown(1001, "ann", "the newest", "open", [])
+
+    def shows(path: str) -> bytes | None:
+        if path == "/requests/from/1001":
+            goes_on.wait(60)
+            return said([new])
+        given = {"/requests/from/1": old, "/waiting": {"requests": [new], "proposals": []}}
+        return said(given[path]) if path in given else None
+
+    site.relay.shows = shows
+    browser.sign_in(token("rita"))
+    browser.sees("the newest")
+    browser.script("location.hash = '#/requests'")
+    browser.sees("Reading from the desk", "Open 1", "Signed 1,000", "the newest")
+    browser.press("Rejected 0")
+    browser.sees("None so far: the list is still being read.")
+    goes_on.set()
+    browser.sees("No request is like this.", "Open 1", "All 1,001")

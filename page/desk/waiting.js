@@ -160,6 +160,14 @@ export function inbox() {
     };
 }
 
+// What is read of the list of requests so far, which begins with the oldest; and behind it what
+// waits for the person or is theirs and under way.
+/** @param {Request[]} some */
+export function withWaiting(some) {
+    const last = some.at(-1)?.number ?? 0;
+    return [...some, ...(mine.waiting?.requests ?? []).filter(({ number }) => number > last)];
+}
+
 // How many wait for the person or changed: the one count that is shown anywhere.
 export function count() {
     const now = inbox();

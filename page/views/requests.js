@@ -8,6 +8,7 @@ import { listed } from '../desk/lists.js';
 import { requestMatches } from '../desk/search.js';
 import { me, withYou } from '../desk/session.js';
 import { barredBy, standing } from '../desk/standing.js';
+import { withWaiting } from '../desk/waiting.js';
 import { wire } from '../formats/wire.js';
 import { counted, size, stateChoices, stateCounts, voteWords } from '../formats/words.js';
 
@@ -24,18 +25,19 @@ export function requestsView(place) {
     heading(place, 'Requests', me.submitter ? submit : null);
     const own = me.submitter && !me.reviewer;
     if (own) place.append(quiet('You see the requests that you submitted.'));
-    /** @type {((some: Request[]) => void) | null} */
+    /** @type {ReturnType<typeof queue> | null} */
     let shows = null;
-    const show = (/** @type {Request[]} */ some) => {
+    const show = (/** @type {Request[]} */ some, isWhole = false) => {
         shows ??= queue(place);
-        shows(some);
+        shows(isWhole ? some : withWaiting(some), isWhole);
     };
-    read(place, () => listed('requests', show), (all) => {
-        show(all);
+    read(place, () => listed('requests', (some) => show(some)), (all) => {
+        show(all, true);
         if (!place.isConnected || me.queue.scroll === 0) return;
         scrollTo(0, me.queue.scroll);
         me.queue.scroll = 0;
     });
+    if (withWaiting([]).length > 0) show([]);
 }
 
 // What says that an image is barred today, once it is known; it is asked for at the first request
@@ -55,16 +57,14 @@ function barring() {
     };
 }
 
-/** @param {() => boolean} none whether there is no request at all */
-function queueTable(none) {
+/** @param {() => string} empty what is said where no row is shown */
+function queueTable(empty) {
     const barred = barring();
     return paged({
         caption: 'Requests, oldest first',
         kind: 'wide queue',
         head: ['No', 'Title', 'From', 'State', 'Votes', 'Size'],
-        empty: () => (none()
-            ? 'There is no request yet.'
-            : 'No request is like this. Choose another state, or change the text.'),
+        empty,
         turned: (from) => (me.queue.from = from),
         row: (/** @type {Request} */ request) => [
             ['number', request.number],
@@ -78,13 +78,21 @@ function queueTable(none) {
 }
 
 // Places the queue, with the filter and the page that it had.
-/** @param {HTMLElement} place @returns {(some: Request[]) => void} what shows these */
+/**
+ * @param {HTMLElement} place
+ * @returns {(some: Request[], isWhole: boolean) => void} shows these, the whole list or not yet
+ */
 function queue(place) {
     const last = me.queue;
     last.state ||= first();
     /** @type {Request[]} */
     let requests = [];
-    const table = queueTable(() => requests.length === 0);
+    let isRead = false;
+    const table = queueTable(() => {
+        if (!isRead) return 'None so far: the list is still being read.';
+        return requests.length === 0 ? 'There is no request yet.'
+            : 'No request is like this. Choose another state, or change the text.';
+    });
     const again = () => {
         last.from = 0;
         show();
@@ -115,8 +123,8 @@ function queue(place) {
         table.set(rows, last.from);
         told.textContent = counted(rows.length, 'request');
     }
-    return (some) => {
-        requests = some;
+    return (some, isWhole) => {
+        [requests, isRead] = [some, isWhole];
         show();
     };
 }
