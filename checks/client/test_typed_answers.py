@@ -1,5 +1,5 @@
-"""Each question of page/wire/questions.json at a real terminal: whatever isn't a whole yes sends
-nothing, and leaves no key."""
+"""Each question of page/wire/questions.json at a real terminal of 80 columns: its lines have whole
+words, and whatever isn't a whole yes sends nothing, and leaves no key."""
 from __future__ import annotations
 
 import re
@@ -73,10 +73,12 @@ def sentence(one: Asked) -> str:
 def answers(office: Office, one: Asked, key: str, typed: str, status: int) -> None:
     """A run that gets this answer ends so, and sends nothing."""
     before = office.report()
-    ended, said = office[one.who].asked(one.line, typed)
+    ended, said = office[one.who].asked(one.line, typed, (24, 80))
     where = f"{key} at the question of: {one.who} {one.line}"
-    if not re.search(sentence(one), said):
+    if not re.search(sentence(one), " ".join(said.split())):
         fail(f"{where}: it isn't asked: {said}")
+    asked = said[said.find("! ") : said.find("deskctl: ")].splitlines()
+    expect([line for line in asked if len(line) > 80], [], f"long lines at {where}")
     expect((ended, office.report(), office[one.who].pending()), (status, before, []), where)
     told = "interrupted" if key == "Ctrl-C" else "nothing was sent"
     assert told in said, said

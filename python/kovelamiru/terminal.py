@@ -7,6 +7,7 @@ import shutil
 import signal
 import subprocess
 import sys
+import textwrap
 import threading
 from typing import Optional, Sequence, TextIO
 
@@ -117,7 +118,7 @@ class Terminal:
         """Shows the doubts, and goes on only if a person types what is wanted, or --yes was given.
         `word` says the same without asking."""
         for doubt in doubts:
-            self.warn(f"! {doubt}")
+            self.warn(self.wrapped(f"! {doubt}"))
         if self.yes:
             return
         if not self.asks:
@@ -128,6 +129,13 @@ class Terminal:
         answer = sys.stdin.readline().strip()
         if answer != wanted:
             wrong("nothing was sent")
+
+    def wrapped(self, text: str) -> str:
+        """On a terminal, lines of whole words."""
+        if not self.err.isatty():
+            return text
+        return textwrap.fill(text, shutil.get_terminal_size().columns, subsequent_indent="  ",
+                             break_long_words=False, break_on_hyphens=False)
 
     @property
     def can_ask(self) -> bool:
