@@ -30,6 +30,13 @@ FORMS = [
 ]
 
 
+# (behind a click a browser shows it at fields of text alone)
+SEEN = """
+const one = document.activeElement;
+return one.type === 'file' || getComputedStyle(one).outlineWidth === '3px';
+"""
+
+
 def heard(browser: Browser) -> dict[str, tuple[str, bool]]:
     """What is wrong, as the accessibility tree has it: each invalid field's name with its
     description, and whether it has the focus."""
@@ -52,6 +59,7 @@ def says(browser: Browser, faults: dict[str, str]) -> None:
         if fault not in description or has_focus != (label == first):
             fail(f"“{fault}” isn’t heard at {label}, or the focus is wrong: {found}")
     expect(len(found), len(faults), f"the fields with a fault: {found}")
+    assert browser.script(SEEN), f"the focus isn’t seen at {first}"
 
 
 @pytest.mark.long(60)
