@@ -2,11 +2,12 @@
 from __future__ import annotations
 
 import hashlib
+import os
 import re
 from dataclasses import dataclass
 from typing import Iterable, Optional
 
-from .faults import NoAnswer, Unreadable, broken
+from .faults import NoAnswer, Unreadable, broken, wrong
 from .fetch import fetched
 from .programs import unsigned_by
 
@@ -62,6 +63,47 @@ def signed_at(where: str, key: str, what: str, ca: Optional[str], program: str) 
     if said:
         raise Unreadable(f"it isn't signed: {said}")
     return checkpoint_of(data)
+
+
+# ---- witnesses
+
+
+@dataclass(frozen=True)
+class Witness:
+    """Who says by a signature that their own `desk follow` reached a checkpoint, and where."""
+
+    name: str
+    where: str
+    key: str
+
+    @property
+    def file(self) -> str:
+        """Its signature, where the checkpoint is published."""
+        return f"{NAME}.{self.name}.sig"
+
+
+def witnesses_in(path: str) -> list[Witness]:
+    """The lines `NAME WHERE KEY` of a file that nobody but root or this user writes."""
+    try:
+        found = os.stat(path)
+        with open(path, encoding="ascii") as file:
+            rows = [line.split() for line in file if line.strip() and line[0] != "#"]
+    except (OSError, ValueError) as error:
+        broken(f"{path}: {error}")
+    if found.st_uid not in (0, os.geteuid()) or found.st_mode & 0o022:
+        wrong(f"others can write {path}")
+    for row in rows:
+        if len(row) < 4 or not re.fullmatch("[a-z0-9][a-z0-9-]{0,31}", row[0]):
+            wrong(f"{path}: no witness is {' '.join(row)[:100]!r}, but NAME WHERE KEY")
+    made = [Witness(row[0], row[1], " ".join(row[2:4])) for row in rows]
+    if len({one.name for one in made}) < len(made) or len({one.key for one in made}) < len(made):
+        wrong(f"{path}: two witnesses have one name or one key")
+    return made
+
+
+def unwitnessed(one: Witness, sign: bytes, text: bytes) -> str:
+    """Why this isn't its signature of a checkpoint; nothing if it is."""
+    return unsigned_by(one.key, WITNESSED, sign, text)
 
 
 def key_in(path: str) -> str:

@@ -11,6 +11,7 @@ import tempfile
 import time
 from typing import Callable, Optional
 
+from .checkpoints import NAME as CHECKPOINT, unwitnessed, witnesses_in
 from .faults import DONE, NoAnswer, Unreadable, broken, wrong
 from .fetch import fetched
 from .programs import refused, unsigned
@@ -34,6 +35,7 @@ Nothing changes, and the line on standard error begins with `kovelamiru-mirror: 
   signature  SHA256SUMS isn't signed by NAME with a key of SIGNERS
   calls      it has fewer calls than the copy here: an older publication
   date       its date is earlier than that of the copy here, or ahead of this clock by a day
+  witnesses  fewer than -k of --witnesses signed its checkpoint
   sums       a file isn't that of its sum
   age        --oldest, and the date is older (the copy is made nevertheless)
 
@@ -138,6 +140,8 @@ def filled(words: argparse.Namespace, new: str, files: dict[str, bytes], now: Su
         if hashlib.sha256(data).hexdigest() != due:
             refused("sums", f"{base}/{name} isn't the file of its sum")
         write(path, data, 0o644)
+    if words.witnesses:
+        witnessed(words, new, now)
     if words.minutes:
         data = asked(words, f"{base}/minutes.txt", telling("minutes.txt"))
         told = audit_of(read(os.path.join(new, "audit.txt"))).get("minutes")
@@ -150,6 +154,15 @@ def filled(words: argparse.Namespace, new: str, files: dict[str, bytes], now: Su
         synced(os.path.join(new, name))
     os.chmod(new, 0o755)
     synced(new)
+
+
+def witnessed(words: argparse.Namespace, new: str, now: Sums) -> None:
+    """So many witnesses signed the checkpoint."""
+    text = read(os.path.join(new, CHECKPOINT))
+    names = [one.name for one in witnesses_in(words.witnesses) if one.file in now.files
+             and not unwitnessed(one, read(os.path.join(new, one.file)), text)]
+    if len(names) < words.k:
+        refused("witnesses", f"{len(names)} of {words.k} signed its {CHECKPOINT}")
 
 
 def replaced(words: argparse.Namespace, files: dict[str, bytes], now: Sums) -> None:
@@ -212,6 +225,10 @@ def words_of(arguments: list[str]) -> argparse.Namespace:
         parser.add_argument(name, metavar=word, required=True, help=text)
     parser.add_argument("--ca", metavar="FILE",
                         help="certificates that the site's has to come from, in PEM")
+    parser.add_argument("--witnesses", metavar="FILE",
+                        help="who signs the checkpoint, too: lines `NAME - KEY`")
+    parser.add_argument("-k", metavar="N", type=int, default=1,
+                        help="how many of them have to (1)")
     parser.add_argument("--oldest", metavar="HOURS", type=int, default=0,
                         help="fail where the date is older")
     parser.add_argument("--minutes", action="store_true", help="minutes.txt, too, if it is public")

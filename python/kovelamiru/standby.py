@@ -31,8 +31,8 @@ ROUNDS = 3
 ABOUT = """\
 Fetches the lines of the desk's minutes that MINUTES lacks, gives all of them to
 `desk follow DB OWNER -`, and appends to MINUTES those that it took: DB becomes a desk with the same
-minutes, dbx, db and level. Each line is one commit, and after a stop at any moment the next run goes
-on. Both files are this desk's alone: others see notes, open proposals and SHA-256 of tokens in them.
+minutes, dbx, db and level. Each line is one commit, and after a stop at any moment the next run
+goes on. Both files are this desk's alone: in them are notes, open proposals and SHA-256 of tokens.
 
   desk-standby desk.db minutes.txt --owner OWNER --url https://people.desk.example.org:8443 \\
       --ca /etc/ssl/certs/desk-ca.pem --cert standby.pem --cert-key standby.key

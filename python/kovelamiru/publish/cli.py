@@ -36,6 +36,7 @@ has
   index.html, dbx.json         for people and for programs, and not proved: the
                                level, what dbx and db have, what came since the last time
   dbx.auth, db.auth            what the signing command made, if one is named
+  checkpoint.txt.NAME.sig      with --witnesses, the signature of each
   SHA256SUMS                   of all of these; above them calls, date and folder
   SHA256SUMS.sig               its signature, with --key
   minutes.txt                  for this user alone, unless --public-minutes; its
@@ -58,6 +59,7 @@ Nothing is published, and the line on standard error begins with `desk-publish: 
   witness     they don't begin with those of which a mirror has the checkpoint, signed by --key
   dbx         it lacks an entry that was published
   level       a generation or the stamp is below the published one
+  witnesses   fewer than -k witnesses signed its checkpoint within 90 seconds
   shim        shim-dbx.esl, read again, doesn't revoke what dbx does
   signature   the signing command failed; or firmware wouldn't take what it made: it doesn't end with
               the list, its time isn't after that of the update before, or is ahead of the clock; or
@@ -80,6 +82,15 @@ paths:
 
   #!/bin/sh
   exec sign-efi-sig-list -c /etc/KEK.crt -k /etc/KEK.key "$1" "$2" "$3"
+
+A witness is whoever runs `desk-standby --sign KEY --statement FOLDER`, and shows that folder:
+WHERE is its checkpoint.txt, a URL or a file, and KEY its public SSH key. The signature says that
+its own `desk follow` reached these very minutes, which go on from what it signed before: who has
+the desk's machine and the key of --key can't show two histories without it. With a line `NAME KEY`
+for each in WITNESSES, whoever has a published folder checks
+
+  ssh-keygen -Y verify -f WITNESSES -I NAME -n kovelamiru-witness \\
+      -s checkpoint.txt.NAME.sig < checkpoint.txt
 
 The file of consent has one line, `HEX CALLS NAME`: the SHA-256 of the new db.esl, the number of the
 call that changed db last, and the officer who looked at it. So it is for one change. Without it all
@@ -158,6 +169,9 @@ OPTIONS: tuple[tuple[str, dict[str, Any]], ...] = (
     ("--witness", {"metavar": "URL", "action": "append", "default": [],
                    "help": "checkpoint.txt as a mirror has it, or a file; with --key; may be"
                    " repeated"}),
+    ("--witnesses", {"metavar": "FILE", "help": "who follows the desk and signs its checkpoint:"
+                     " lines `NAME WHERE KEY`"}),
+    ("-k", {"metavar": "N", "type": int, "default": 1, "help": "how many of them have to (1)"}),
     ("--renew", {"metavar": "HOURS", "type": int, "default": 0,
                  "help": "publish again, with a new date, what is so old"}),
     ("--first", {"action": "store_true", "help": "FOLDER isn't there yet"}),
@@ -193,6 +207,8 @@ def words_of(arguments: list[str]) -> argparse.Namespace:
         parser.error("--kek goes with --sign")
     if words.witness and not words.key:
         parser.error("--witness takes --key: a checkpoint that nobody signed is anybody's")
+    if words.k < 1:
+        parser.error("-k is 1 at least")
     if words.keep < 2:
         parser.error("--keep is 2 at least: readers may still be in the last one")
     return words

@@ -18,6 +18,7 @@ from .files import read, synced, write
 from .page import Before, Publication, dbx_json, firsts_of, index
 from .rules import db_follows, follows
 from .sums import NAME as SUMS, day, sums_of
+from .testimony import testimonies
 from .updates import update
 
 # What signatures are for, by their namespaces.
@@ -118,6 +119,8 @@ def filled(words: argparse.Namespace, link: str, whole: str, now: int, found: Fo
                          f"minutes {digest(found.minutes)}\n").encode()
     if words.key:
         files[f"{CHECKPOINT}.sig"] = signature(words.key, MINUTES, files[CHECKPOINT])
+    if words.witnesses:
+        files.update(testimonies(words, files[CHECKPOINT]))
     files.update(pages(words, files, found, now, last))
     sums = f"# calls {found.calls}\n# date {day(now)}\n# folder {os.path.basename(whole)}\n"
     sums += "".join(f"{digest(data)}  {name}\n" for name, data in sorted(files.items()))
