@@ -114,8 +114,9 @@ def test_an_uploads_rows_stand_below_one_row(built: Office) -> None:
     built["ann"].does("submit vmlinuz-arm64 --title 'linux 6.12 arm64 again'")
     status, said = built["rita"].asked("requests", size=(24, 80))
     rows = [line.split() for line in said.splitlines()[1:]]
-    expect((status, [" ".join(row[5:] or row) for row in rows]), (0, [
-        "shim 16 amd64", "linux 6.12: 4", "amd64", "amd64 cloud", "arm64", "arm64 again",
+    found = [" ".join(row if row[0] == "linux" else row[5:]) for row in rows]
+    expect((status, found), (0, [
+        "shim 16 amd64", "linux 6.12: 2 3 4 5", "amd64", "amd64 cloud", "arm64", "arm64 again",
     ]), said)
     assert "linux 6.12 amd64 cloud" in built["rita"].does("requests"), "what a pipe gets"
 
@@ -143,7 +144,7 @@ def test_a_review_of_an_upload_shows_what_was_signed_before(
         "request 3 (open, grub 3 amd64), of ann, 0 of 2 yes", "before      request 2 (signed, grub",
         f"  length      {length:,} bytes, before {before:,}", "  component   grub 4, before 3",
         "  component   sbat 1, before 1", "request 4 (open, grub 3 arm64)", sha256(PLAIN),
-        "  before      no signed request of this name",
+        "  before      none of its name is signed among the last\n  length      1,024 bytes\n",
     ):
         assert line in said, (line, said)
     asked = [head.split(b" ")[1] for head in between.seen if b"/from/" in head]

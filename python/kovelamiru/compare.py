@@ -107,20 +107,21 @@ def certificate_lines(one: Request, here: Facts, whose: dict[str, str]) -> list[
 
 def beside_lines(one: Request, last: Optional[Request]) -> list[str]:
     """A request's image beside that of the request of the same name that was signed last."""
-    if last is None:
-        return ["  before      no signed request of this name is among the last ones"]
-    lines = [f"  before      {titled(last)}",
-             f"  length      {one.length:,} bytes, before {last.length:,}"]
-    now, then = generations(one.components), generations(last.components)
+    def before(then: object) -> str:
+        return f", before {then}" if last else ""
+
+    now, then = generations(one.components), generations(last.components if last else [])
+    lines = [f"before      {titled(last) if last else 'none of its name is signed among the last'}",
+             f"length      {one.length:,} bytes{before(f'{last.length:,}' if last else '')}"]
     for name in dict.fromkeys([*then, *now]):
-        lines.append(f"  component   {printable(name)} {now.get(name, 'none')}, before"
-                     f" {then.get(name, 'none')}")
-    if one.digest == last.digest:
-        lines.append("  digest      the same image as before")
-    if sorted(one.carried) != sorted(last.carried):
-        lines.append(f"  carried     {counted(len(one.carried), 'certificate')}, before"
+        generation = f"{now.get(name, 'none')}{before(then.get(name, 'none'))}"
+        lines.append(f"component   {printable(name)} {generation}")
+    if last and one.digest == last.digest:
+        lines.append("digest      the same image as before")
+    if last and sorted(one.carried) != sorted(last.carried):
+        lines.append(f"carried     {counted(len(one.carried), 'certificate')}, before"
                      f" {len(last.carried)}, not the same")
-    return lines
+    return [f"  {line}" for line in lines]
 
 
 def differences(one: Request, here: Facts, whose: dict[str, str]) -> list[str]:

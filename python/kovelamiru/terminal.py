@@ -20,7 +20,8 @@ TOKEN = re.compile(r"desk_[A-Za-z0-9_-]{43}")
 
 
 def widths_of(cells: Sequence[Sequence[str]]) -> list[int]:
-    return [max(map(len, column)) for column in zip(*cells)]
+    """Those of the columns; a row of one cell is a heading."""
+    return [max(map(len, column)) for column in zip(*(row for row in cells if len(row) > 1))]
 
 
 def fitted(cells: Sequence[Sequence[str]], stretch: int, room: int) -> list[str]:
@@ -33,7 +34,7 @@ def fitted(cells: Sequence[Sequence[str]], stretch: int, room: int) -> list[str]
         for _ in range(over - less):
             widths[widths.index(max(widths))] -= 1
     return ["  ".join(cut(cell, width).ljust(width) for cell, width in zip(row, widths)).rstrip()
-            for row in cells]
+            if len(row) > 1 else cut(row[0], room) for row in cells]
 
 
 class Terminal:
@@ -84,7 +85,8 @@ class Terminal:
                                   for at, cell in enumerate(row)] for row in cells]
         room = shutil.get_terminal_size().columns
         if spare is not None and sum(widths_of(cells)) + 2 * (len(heads) - 1) > room:
-            cells = [[cell for at, cell in enumerate(row) if at != spare] for row in cells]
+            cells = [[cell for at, cell in enumerate(row) if at != spare or len(row) == 1]
+                     for row in cells]
             stretch -= spare < stretch
         lines = fitted(cells, stretch, room)
         if paged:

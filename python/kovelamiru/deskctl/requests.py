@@ -48,7 +48,8 @@ def request_row(value: dict[str, Any]) -> tuple[object, ...]:
 
 
 def grouped(rows: list[Row]) -> list[Row]:
-    """Rows whose titles begin alike, below a row for all of them, where the first one stands."""
+    """Rows whose titles begin alike, below a heading with their numbers, where the first one
+    stands."""
     groups: dict[object, list[Row]] = {}
     for row in rows:
         groups.setdefault(group_of(str(row[-1])) or row[0], []).append(row)
@@ -57,7 +58,7 @@ def grouped(rows: list[Row]) -> list[Row]:
         if len(some) == 1:
             found += some
             continue
-        found.append([*[""] * (len(some[0]) - 1), f"{begin}: {len(some)}"])
+        found.append([f"{begin}: {' '.join(str(row[0]) for row in some)}"])
         at = len(str(begin).split())
         found += [[*row[:-1], "  " + " ".join(str(row[-1]).split()[at:])] for row in some]
     return found

@@ -56,11 +56,13 @@ def doubt_of(one: Request, file: Signed, now: Standing) -> Optional[str]:
     return carried_question(signatures_of(file.data), now)
 
 
+UNCHECKED = "The desk checks no signature: `osslsigncode verify` does, before."
+
+
 def return_of(run: Run, one: Signed, what: str) -> One:
     def show(_: dict[str, Any]) -> None:
         run.terminal.say(f"request {one.number} signed")
         run.terminal.say(f"returned {one.sum()}")
-        run.terminal.note("The desk checked no signature: `osslsigncode verify` does, before.")
 
     call = Call("POST", f"/requests/{one.number}/return", one.data, (), "returned", what)
     return One(call, f"request {one.number}, {printable(one.path)}", show, causes_of(run, one))
@@ -79,6 +81,7 @@ def give_back(run: Run) -> None:
     def asks(taken: bool) -> Optional[str]:
         if taken:
             return None
+        run.terminal.note(UNCHECKED)
         one, now = request_of(run.desk, number), standing_of(run.desk)
         doubt = doubt_of(one, file, now)
         if doubt:
@@ -181,6 +184,7 @@ def all_asks(run: Run, pairs: Sequence[tuple[Request, Signed]]) -> list[str]:
             f"request {one.number}: {printable(file.path)}, for {printable(one.title)}")
         doubt = doubt_of(one, file, now)
         doubts += [f"{printable(file.path)}: {doubt}"] if doubt else []
+    run.terminal.note(UNCHECKED)
     question = f"Return {counted(len(pairs), 'file')} so? Type yes:"
     if doubts:
         run.terminal.confirm(doubts, question)

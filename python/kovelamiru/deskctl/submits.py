@@ -76,7 +76,8 @@ def submitted(run: Run, one: Image, alone: bool, reply: dict[str, Any]) -> None:
             f"The desk keeps no image: give the file to the reviewers. `deskctl wait {number}`"
             " waits for two of them.")
     if not has_sbat(one.data):
-        run.terminal.note("It has no .sbat: only its digest or its signer can bar it.")
+        why = ": only its digest or its signer can bar it" if alone else ""
+        run.terminal.note(f"It has no .sbat{why}.")
 
 
 def submit(run: Run) -> None:
