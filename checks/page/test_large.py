@@ -39,6 +39,23 @@ new MutationObserver(() => {
     requestAnimationFrame(() => (watched.row ||= performance.now()));
 }).observe(document.body, {childList: true, subtree: true});
 """
+# All calls were put into words, the first one last, while nothing else was to be done; a search types
+# a letter after the other, and waits for what the last one finds.
+IN_WORDS = """return import('/page/desk/calls.js').then(({ minutes }) =>
+    minutes().words[0] !== undefined)"""
+SEARCH = """return (async (text, told) => {
+const field = document.querySelector('input[type=search]');
+for (let at = 1; at <= text.length; at += 1) {
+    field.value = text.slice(0, at);
+    field.dispatchEvent(new Event('input'));
+    await new Promise((typed) => setTimeout(typed, 20));
+}
+const last = performance.now();
+while (!document.body.textContent.includes(told)) {
+    await new Promise((drawn) => setTimeout(drawn, 5));
+}
+return performance.now() - last;
+})(...arguments)"""
 ENDED = "return performance.getEntriesByName(location.origin + arguments[0]).pop().responseEnd"
 Tried = tuple[float, float]
 
@@ -55,6 +72,11 @@ def first_screen(browser: Browser, view: str, row: str, told: str, path: str) ->
 
 def still(browser: Browser) -> float:
     return float(browser.script("return watched.gap"))
+
+
+def searched(browser: Browser, text: str, count: str) -> float:
+    """After how many milliseconds so many calls are found, of a search that is typed anew."""
+    return float(browser.script(SEARCH, text, f"{count} of {CALLS:,} calls."))
 
 
 def in_time(view: str, tries: Callable[[], Tried]) -> None:
@@ -140,7 +162,8 @@ def test_a_hundred_thousand_calls_are_shown_filtered_and_asked_about_in_time(
         newest = f"/minutes/{CALLS - 999}"
         late = first_screen(browser, "history", "td.words", f"{CALLS:,} calls.", newest)
         label = "Filter by text, name or digest"
-        browser.fill(label, "voted yes on request 777, now approved")
+        browser.has("each call is in words", IN_WORDS, 60)
+        late = max(late, searched(browser, "voted yes on request 777, now approved", "1"))
         browser.sees(f"1 of {CALLS:,} calls.")
         browser.fill(label, "")
         until(30, "100 calls", lambda: len(browser.all("tbody tr")) == 100, browser.text)

@@ -2,6 +2,7 @@
 // was asked about, by numbers: an address has no digest, so that the browser's history has none.
 
 import { get, pause } from './api.js';
+import { minuteOf, sentenceOf } from '../formats/sentences.js';
 
 /** @typedef {import('./types.js').Answer} Answer */
 /**
@@ -18,6 +19,8 @@ const PART = 1000;
 const nothing = () => ({
     /** @type {string[]} by their number, less one; one that isn't here yet is undefined */
     lines: [],
+    /** @type {string[]} some of them in words, in small letters, as a search needs them */
+    words: [],
     /** How many are here, and how many of the first ones without a gap. */
     known: 0,
     whole: 0,
@@ -68,7 +71,7 @@ async function all(into) {
     // none)
     const last = into.whole > 0 ? await part(into, into.whole) : null;
     if (last && last.kind !== 'value') return last;
-    if (last && last.value < 1) Object.assign(into, { lines: [], known: 0, whole: 0 });
+    if (last && last.value < 1) Object.assign(into, { lines: [], words: [], known: 0, whole: 0 });
     const fault = into.lines.length === 0 ? await newest(into) : null;
     if (fault) return fault;
     for (;;) {
@@ -86,6 +89,7 @@ async function newest(into) {
     const count = Number(/^commands +([0-9]+)$/m.exec(report.value)?.[1] ?? 0);
     // (an array of this length, since one that is filled from its end would be slow)
     into.lines = Array(count);
+    into.words = Array(count);
     const answer = count > PART ? await part(into, count - PART + 1) : null;
     return answer && answer.kind !== 'value' ? answer : null;
 }
@@ -119,6 +123,35 @@ export function callerOf(line) {
     return line.slice(at, line.indexOf('\t', at));
 }
 
+// A line in words, in small letters. They are kept: 100,000 take seconds to make.
+/** @param {number} at its number, less one */
+export function wordsAt(at) {
+    const { lines, words } = mine;
+    if (words[at] === undefined) {
+        const minute = minuteOf(lines[at]);
+        words[at] = minute ? sentenceOf(minute).toLowerCase() : '';
+    }
+    return words[at];
+}
+
+// Puts the lines into words while the page has nothing else to do, where the browser tells that.
+/** @param {() => boolean} goes whether it is still wanted */
+export function wordsAhead(goes) {
+    if (!('requestIdleCallback' in window)) return;
+    const { lines } = mine;
+    let at = lines.length;
+    /** @param {IdleDeadline} idle */
+    const some = (idle) => {
+        if (lines !== mine.lines || !goes()) return;
+        while (at > 0 && idle.timeRemaining() > 2) {
+            at -= 1;
+            if (lines[at] !== undefined) wordsAt(at);
+        }
+        if (at > 0) requestIdleCallback(some);
+    };
+    requestIdleCallback(some);
+}
+
 // The number of what is asked about, for an address.
 /** @param {Asked} asked */
 export function numberOf(asked) {
@@ -137,7 +170,7 @@ export const askedAt = (word) => mine.asked[Number(word) - 1];
  * Goes through lines in slices, so that the page answers meanwhile.
  * @param {number} from
  * @param {number} to excluded; below `from` it goes down
- * @param {(line: string) => void} take
+ * @param {(line: string, at: number) => void} take
  * @param {() => boolean} goes whether it is still wanted
  * @returns {Promise<boolean>} whether it came to the end
  */
@@ -152,7 +185,7 @@ export async function slices(from, to, take, goes) {
         if (at === to) return true;
         const until = performance.now() + 10;
         do {
-            if (lines[at] !== undefined) take(lines[at]);
+            if (lines[at] !== undefined) take(lines[at], at);
             at += step;
         } while (at !== to && (at % 64 !== 0 || performance.now() < until));
     }

@@ -5,9 +5,9 @@ import { address, callTable } from './calls.js';
 import { buttons, faulty, field, fill, h, heading, line, quiet, quietStatus } from './dom.js';
 import { isComponent } from './numbers.js';
 import { choices } from './table.js';
-import { callerOf, minutes, readOn, slices } from '../desk/calls.js';
+import { callerOf, minutes, readOn, slices, wordsAhead, wordsAt } from '../desk/calls.js';
 import { digestTyped } from '../formats/digests.js';
-import { kindOf, kinds, minuteOf, sentenceOf } from '../formats/sentences.js';
+import { kindOf, kinds } from '../formats/sentences.js';
 import { grouped } from '../formats/words.js';
 
 /** How many rows a page of the table has. */
@@ -117,6 +117,7 @@ function list(place) {
         if (!place.isConnected) return undefined;
         failed = answer.kind !== 'value';
         if (answer.kind !== 'value') fill(told, h('span', { role: 'alert' }, refusalBox(answer)));
+        wordsAhead(() => place.isConnected);
         // (what is kept is shown all the same)
         return failed && minutes().known === 0 ? undefined : scan(true);
     });
@@ -134,8 +135,8 @@ async function scanned(filter, goes) {
     /** @type {Record<string, number>} */
     const counts = { '': 0 };
     const isLike = test(filter);
-    const take = (/** @type {string} */ line) => {
-        if (!isLike(line)) return;
+    const take = (/** @type {string} */ line, /** @type {number} */ at) => {
+        if (!isLike(line, at)) return;
         const kind = kindOf(line) || 'other';
         counts[kind] = (counts[kind] ?? 0) + 1;
         counts[''] += 1;
@@ -166,13 +167,14 @@ function people(select, chosen) {
     select.value = chosen;
 }
 
-/** @param {{ person: string, text: string }} filter @returns {(line: string) => boolean} */
+/**
+ * @param {{ person: string, text: string }} filter
+ * @returns {(line: string, at: number) => boolean}
+ */
 function test({ person, text }) {
     const wanted = text.trim().toLowerCase();
-    return (line) => {
+    return (line, at) => {
         if (person !== '' && callerOf(line) !== person) return false;
-        if (wanted === '' || line.toLowerCase().includes(wanted)) return true;
-        const minute = minuteOf(line);
-        return minute !== null && sentenceOf(minute).toLowerCase().includes(wanted);
+        return wanted === '' || wordsAt(at).includes(wanted) || line.toLowerCase().includes(wanted);
     };
 }
