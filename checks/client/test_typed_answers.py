@@ -26,6 +26,7 @@ class Asked(NamedTuple):
 
 
 ASKED = [
+    Asked("submit", "twice", "ann", "submit 2.efi --title again"),
     Asked("yes", "second", "raul", "review 2 yes"),
     Asked("yes", "barred", "rita", "review 3 yes"),
     Asked("no", "plain", "rita", "review 4 no"),
