@@ -4,12 +4,19 @@ import assert from 'node:assert/strict';
 import { test } from 'node:test';
 
 import { json, rowBytes } from './cases.mjs';
+import { allowDoubts } from '../../page/desk/allowing.js';
 import { knownOf } from '../../page/desk/doubts.js';
 import { look } from '../../page/desk/imports.js';
+import { givenOf } from '../../page/formats/certificates.js';
+import { tbsOf } from '../../page/formats/der.js';
+import { sha256 } from '../../page/formats/digests.js';
+import { revocationsOf } from '../../page/formats/revocations.js';
 import { listsOf } from '../../page/formats/siglists.js';
+import { wire } from '../../page/formats/wire.js';
+import { filled } from '../../page/formats/words.js';
 import { lostWords } from '../../page/views/act.js';
 
-const { parts, certificates } = json('cases/imports');
+const { parts, certificates, owner, allows } = json('cases/imports');
 const SIGNER = certificates.find(({ name }) => name === 'a signer that its CA issued, in DER');
 const certificate = Buffer.from(rowBytes(SIGNER.bytes, parts));
 // A desk that holds nothing.
@@ -17,6 +24,7 @@ const known = knownOf([], {
     level: { stamp: 2021030218, names: new Map([['sbat', 1]]) },
     listed: { digests: new Set(), certificates: new Map() },
     revoked: { digests: new Set(), certificates: new Set() },
+    owners: new Set(),
 });
 
 const ofHex = (digits) => Buffer.from(digits, 'hex');
@@ -132,6 +140,37 @@ test('signature lists are whole only where one ends', () => {
         if ('lists' in listsOf(bytes.subarray(0, length))) whole.push(length);
     }
     assert.deepEqual(whole, [0, DIGESTS.length, LISTS.length - UNKNOWN.length, LISTS.length]);
+});
+
+async function partOf(name) {
+    const bytes = rowBytes(parts[name], parts);
+    return givenOf(await sha256(tbsOf(bytes)), bytes);
+}
+
+for (const { name, file, bytes, listed = {}, revoked = [], asks, ...words } of allows) {
+    test(`${name}: what looks like a list of the allowed is asked about`, async () => {
+        const hexes = (all = []) => new Set(all.map((byte) => byte.repeat(32)));
+        const signers = await Promise.all((listed.certificates ?? []).map(partOf));
+        const now = {
+            listed: {
+                digests: hexes(listed.digests),
+                certificates: new Map(signers.map((one) => [one.tbs, one])),
+            },
+            revoked: { digests: hexes(revoked), certificates: new Set() },
+            owners: new Set([owner]),
+        };
+        const found = await revocationsOf(rowBytes(bytes, parts));
+        const due = asks.map((one) => filled(wire.questions.import[one], { ...words, name: file }));
+        assert.deepEqual(allowDoubts(file, found, now).map(({ text }) => text), due);
+    });
+}
+
+test('a certificate that stands in a file whole is told, with whose it is', async () => {
+    const row = [...allows.find(({ file }) => file === 'MokListRT').bytes];
+    const { lines, doubts } = await look(rowBytes(row, parts), known, 'MokListRT');
+    assert.ok(lines.includes('Certificate: C=DE, O=A distribution, CN=Boot CA, a CA’s.'), lines);
+    assert.ok(lines.includes('Certificate: O=A distribution, CN=Boot signer 2026.'), lines);
+    assert.equal(doubts.length, 2);
 });
 
 const STATUSES = [

@@ -3,9 +3,10 @@ the list says what each names, how old it is, and whose."""
 from __future__ import annotations
 
 from checks.page.site import Site, unsigned
-from checks.support.browser import Browser, until
+from checks.support.browser import Browser
 from checks.support.messages import token
 from checks.support.says import expect
+from checks.support.waits import until
 
 TITLE, DIGESTS = "shim 16.1-1 amd64", "Digests, one a line"
 

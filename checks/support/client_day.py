@@ -6,7 +6,9 @@ import struct
 from typing import Sequence
 
 from checks.support.cases import SIGNER
-from checks.support.images import PLAIN, THREE_LISTS, authenticode, digest, sha256, with_table
+from checks.support.images import (
+    PLAIN, STORED, THREE_LISTS, authenticode, digest, sha256, with_table
+)
 from checks.support.messages import Field, said
 from checks.support.steps import named, raising, vote
 
@@ -34,11 +36,13 @@ def table_of(certificate: bytes) -> bytes:
 SIGNED = with_table(PLAIN, table_of(CERTIFICATE))
 # Its digest isn't the one that a signature holds.
 ODD = PLAIN + b"12345"
+# Of another owner than the desk's, whose own lists are asked about.
+OTHERS_LISTS = THREE_LISTS.replace(STORED, bytes.fromhex("bd9afa775903324dbd6028f4e78f784b"))
 CSV = f"kind,value,generation\nsha256,{digest('cc')},\nsbat,grub,4\n".encode()
 LEVEL = f"sbat,1,{TODAY}04\nshim,4\n".encode()
 FILES = {
     "plain.efi": PLAIN, "signed.efi": SIGNED, "odd.efi": ODD, "certificate.der": CERTIFICATE,
-    "lists.esl": THREE_LISTS, "revoked.csv": CSV, "level.csv": LEVEL, "empty": b"",
+    "lists.esl": OTHERS_LISTS, "revoked.csv": CSV, "level.csv": LEVEL, "empty": b"",
 }
 BOTH = (f"kind,value,generation\nsha256,{authenticode(ODD)},\n"
         f"sha256,{authenticode(ODD + bytes(3))},\nx509_sha256,{digest('dd')},\n").encode()

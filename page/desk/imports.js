@@ -1,5 +1,6 @@
 // A look into a file before it is imported: what kind it is, what is in it, what of that is new.
 
+import { allowDoubts } from './allowing.js';
 import { itemDoubts } from './doubts.js';
 import { revocationsOf } from '../formats/revocations.js';
 import { higher } from '../formats/sbat.js';
@@ -25,6 +26,9 @@ const KINDS = {
     microsoft: 'Microsoft’s list',
 };
 
+/** So many certificates, and so many generations, are told one by one. */
+const SHOWN = 20;
+
 const NOTHING_NEW = 'Nothing in it is new: a Confirm would change nothing.';
 
 /** @type {Record<string, [one: string, many: string, why: string]>} what is left out, and why */
@@ -43,13 +47,17 @@ const ASIDE = {
     other: ['image without a SHA-256', 'images without a SHA-256', ''],
 };
 
-/** @param {Uint8Array} bytes @param {Known} known @returns {Promise<Look>} */
-export async function look(bytes, known) {
+/**
+ * @param {Uint8Array} bytes @param {Known} known @param {string} [name] the file's
+ * @returns {Promise<Look>}
+ */
+export async function look(bytes, known, name = '') {
     const found = await revocationsOf(bytes);
     const { path, body } = found;
     const none = bytes.length === 0 ? 'Empty' : 'It can’t be imported';
     const { lines, fresh, raises } = news(found, known.now);
     const doubts = found.fault ? [] : itemDoubts(found, known);
+    if (!found.fault) doubts.push(...allowDoubts(name, found, known.now));
     if (!found.fault && !fresh) doubts.push({ text: NOTHING_NEW });
     return {
         kind: KINDS[found.kind] ?? none,
@@ -66,7 +74,7 @@ export async function look(bytes, known) {
 
 // What the file names, and how much of it is new.
 /** @param {Revocations} found @param {import('./standing.js').Standing} now */
-function news({ digests, certificates, components, stamp }, { revoked, level }) {
+function news({ digests, certificates, components, stamp, given }, { revoked, level }) {
     const others = (/** @type {Set<string>} */ all, /** @type {Set<string>} */ known) => (
         [...all].filter((one) => !known.has(one)).length
     );
@@ -78,13 +86,20 @@ function news({ digests, certificates, components, stamp }, { revoked, level }) 
     const count = (name, all, some, what) => {
         if (all > 0) lines.push(`${counted(all, name)}, ${part(all, some)} ${what}.`);
     };
+    const more = (/** @type {number} */ all) => {
+        if (all > SHOWN) lines.push(`And ${grouped(all - SHOWN)} more.`);
+    };
     count('digest', digests.size, images, 'new');
     count('certificate', certificates.size, signers, 'new');
+    for (const { whose, authority } of [...given.values()].slice(0, SHOWN)) {
+        lines.push(`Certificate: ${whose}${authority ? ', a CA’s' : ''}.`);
+    }
+    more(given.size);
     count('generation', components.size, raised.length, 'above the present level');
-    for (const [name, generation] of raised.slice(0, 20)) {
+    for (const [name, generation] of raised.slice(0, SHOWN)) {
         lines.push(`${name} from ${level.names.get(name) ?? 'none'} to ${generation}.`);
     }
-    if (raised.length > 20) lines.push(`And ${grouped(raised.length - 20)} more.`);
+    more(raised.length);
     return { lines, fresh: images + signers + raised.length > 0, raises: raised.length > 0 };
 }
 

@@ -15,8 +15,8 @@ import { digestIn, entriesOf } from '../formats/siglists.js';
  * @typedef {{ digests: Set<string>, certificates: Map<string, Listed> }} Allowed
  * @typedef {{ digests: Set<string>, certificates: Set<string> }} Revoked
  * @typedef {{ listed: Allowed, revoked: Revoked, level: import('../formats/sbat.js').Level,
- *   bytes: { db: number, dbx: number }, bodies: Uint8Array[] }} Standing
- * `bodies` has the listed certificates as they are
+ *   bytes: { db: number, dbx: number }, owners: Set<string>, bodies: Uint8Array[] }} Standing
+ * `bodies` has the listed certificates as they are, `owners` those of the lists' entries
  * @typedef {import('./types.js').Answer<Standing>} Answer
  */
 
@@ -54,6 +54,7 @@ export async function standing() {
         listed: await listedOf(db.value),
         revoked: revokedOf(dbx.value),
         bytes: { db: db.value.length, dbx: dbx.value.length },
+        owners: new Set([db, dbx].flatMap((one) => entriesOf(one.value).map(({ owner }) => owner))),
         bodies: entriesOf(db.value).filter(({ kind }) => kind === 'x509').map(({ body }) => body),
     };
     if (mine === turn) kept = { at, value };

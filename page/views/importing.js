@@ -49,7 +49,7 @@ export function importForm() {
         const all = await known();
         if (mine !== turn) return;
         if ('kind' in all) return fill(inside, refusalBox(all));
-        const seen = await look(chosen.bytes, all);
+        const seen = await look(chosen.bytes, all, chosen.file.name);
         if (mine !== turn) return;
         const present = all.now.level.stamp;
         found = { look: seen, name: chosen.file.name, present };

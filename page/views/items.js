@@ -69,7 +69,8 @@ function summary({ kind, passed, stamp }, known) {
 function digestRow(one, known) {
     const request = known?.images.get(one);
     const none = known ? 'no request here has it' : '';
-    const as = request ? [requestLink(request.number), `: ${request.title}`] : none;
+    const listed = known?.now.listed.digests.has(one) ? 'listed; ' : '';
+    const as = [listed, request ? [requestLink(request.number), `: ${request.title}`] : none];
     return ['Digest', digest(one, 'the digest'), as];
 }
 

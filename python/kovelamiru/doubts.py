@@ -101,6 +101,8 @@ class Known:
         named = {"sha256": self.digests, "x509_sha256": self.certificates}.get(name, set())
         if where == "dbx" and body[:32].hex() in named:
             self.revoked.append(f"{body[:32].hex()} is revoked already.")
+        if where == "db" and name == "sha256" and body.hex() in self.digests:
+            self.tell(body.hex(), "listed")
         if name == "x509":
             self.listed(body)
         elif name == "x509_sha256" and body[:32].hex() in self.digests:

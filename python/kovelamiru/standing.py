@@ -12,7 +12,7 @@ from .facts import Facts
 from .faults import Unreadable
 from .http import BYTES, TEXT, not_a_desk
 from .sbat import level_read
-from .siglists import entries_in
+from .siglists import entries_in, guid
 
 
 @dataclass
@@ -24,6 +24,8 @@ class Standing:
     revoked_digests: set[str] = field(default_factory=set)
     revoked_certificates: set[str] = field(default_factory=set)
     level: dict[str, int] = field(default_factory=dict)
+    # Those of the lists' entries: what the desk writes has its own.
+    owners: set[str] = field(default_factory=set)
 
     def subject(self, tbs: str) -> str:
         found = self.certificates.get(tbs)
@@ -45,6 +47,7 @@ class Standing:
 
     def take(self, where: str, kind: str, entry: bytes) -> None:
         """An entry of db or of dbx."""
+        self.owners.add(guid(entry[:16]))
         if where == "dbx":
             named = self.revoked_digests if kind == "sha256" else self.revoked_certificates
             named.add(entry[16:48].hex())

@@ -1,19 +1,21 @@
 """The command import: a file of revocations becomes proposals."""
 from __future__ import annotations
 
+import os
 from dataclasses import dataclass
 from typing import Callable, Optional, Sequence
 
+from ..allowing import allow_doubts
 from ..csv import records
-from ..doubts import known, level_doubts
+from ..doubts import certificate_words, known, level_doubts
 from ..faults import Causes, Refused, wrong
 from ..files import BODY_LIMIT, ENTRY_LIMIT
 from ..http import Call
 from ..proposals import open_doubts
 from ..refusals import next_steps
 from ..revocations import Revocations, revocations_of
-from ..siglists import MICROSOFT, guid
-from ..standing import level_of, lists_of
+from ..siglists import MICROSOFT
+from ..standing import level_of, standing_of
 from ..words import HEX, counted, printable
 from .lists import csv_calls, proposed
 from .run import Run
@@ -63,8 +65,8 @@ def import_calls(found: Revocations, stamp: Optional[int], path: str) -> list[Ca
 
 @dataclass(frozen=True)
 class Force:
-    """What is in force at the desk: the entries of dbx by kind, their owners, the generations of
-    the level."""
+    """What is in force at the desk: the entries of dbx by kind, the owners of its lists, the
+    generations of the level."""
 
     entries: dict[str, set[str]]
     owners: set[str]
@@ -81,12 +83,9 @@ class Force:
 
 
 def force_of(run: Run) -> Force:
-    entries: dict[str, set[str]] = {"sha256": set(), "x509_sha256": set()}
-    owners: set[str] = set()
-    for kind, entry in lists_of(run.desk, "dbx"):
-        entries.setdefault(kind, set()).add(entry[16:48].hex())
-        owners.add(guid(entry[:16]))
-    return Force(entries, owners, level_of(run.desk)[1])
+    now = standing_of(run.desk)
+    entries = {"sha256": now.revoked_digests, "x509_sha256": now.revoked_certificates}
+    return Force(entries, now.owners, now.level)
 
 
 def owner_lines(found: Revocations, force: Optional[Force]) -> list[str]:
@@ -100,6 +99,10 @@ def owner_lines(found: Revocations, force: Optional[Force]) -> list[str]:
     return lines
 
 
+# So many certificates are told one by one.
+SHOWN = 20
+
+
 def previewed(path: str, found: Revocations, calls: Sequence[Call],
               force: Optional[Force]) -> list[str]:
     """What is in a file of revocations, a fact a line."""
@@ -110,6 +113,10 @@ def previewed(path: str, found: Revocations, calls: Sequence[Call],
         count = len(getattr(found, name))
         if count:
             lines.append(f"  {name:<13} {count:,}" + (f", {new[name]:,} new" if new else ""))
+    lines += [f"  certificate   {certificate_words(one)}"
+              for one in list(found.given.values())[:SHOWN]]
+    if len(found.given) > SHOWN:
+        lines.append(f"  certificate   and {len(found.given) - SHOWN:,} more")
     if found.timed:
         timed = counted(found.timed, "certificate")
         lines.append(
@@ -134,6 +141,7 @@ def import_doubts(run: Run, found: Revocations, stamp: Optional[int], force: For
     higher = [pair for pair in found.components if pair[1] > force.level.get(pair[0], 0)]
     seen = known(run.desk, found.digests, found.certificates, higher, found.given)
     doubts = seen.doubts + level_doubts(higher, stamp, force.level, seen.names)
+    doubts += allow_doubts(os.path.basename(run.words.file), found, seen.now)
     doubts += open_doubts(run.desk, set(found.digests), set(found.certificates), higher)
     if found.entries() and not any(force.new(found).values()):
         doubts.append("Nothing in it is new: a Confirm would change nothing.")
