@@ -8,6 +8,7 @@ from ..proposals import counts_words
 from ..standing import barred_by, revoked_of
 from ..waiting import ages_of, own_proposals, waiting_of, yes_words
 from .run import Run
+from .seen import noticed
 
 Rows = Sequence[tuple[object, ...]]
 # The titles of the two tables.
@@ -42,6 +43,7 @@ def section(run: Run, title: str, heads: Sequence[str], rows: Rows) -> None:
 
 def inbox(run: Run) -> None:
     me = caller_of(run.desk)
+    noticed(run, me)
     found = waiting_of(run.desk, me)
     if run.words.json:
         run.print_json({"proposals": found.proposals, "requests": found.requests})

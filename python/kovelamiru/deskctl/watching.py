@@ -19,6 +19,7 @@ from ..standing import Standing, barred_by, revoked_of
 from ..waiting import UNDER_WAY, changes_of, waiting_of
 from ..words import desk_json, kinds, printable
 from .run import Run
+from .seen import lost
 
 # Seconds between two looks; and at least so many times what an answer took: a long list is asked
 # for less often.
@@ -228,6 +229,8 @@ def turn(run: Run, me: Me, memory: Memory) -> None:
     """Looks, unless the desk says that nothing changed. To a submitter it doesn't say that of the
     lists which bar images."""
     changes = changes_of(run.desk)
+    if changes is not None and changes < memory.changes:
+        run.terminal.warn(lost(me, memory.changes))
     if changes == memory.changes and not (me.role == "submitter" and memory.own):
         return
     events, own, last = look(run, me, memory)
