@@ -39,8 +39,8 @@ new MutationObserver(() => {
     requestAnimationFrame(() => (watched.row ||= performance.now()));
 }).observe(document.body, {childList: true, subtree: true});
 """
-# All calls were put into words, the first one last, while nothing else was to be done; a search types
-# a letter after the other, and waits for what the last one finds.
+# All calls were put into words, the first one last, while nothing else was to be done; a search
+# types a letter after the other, and waits for what the last one finds.
 IN_WORDS = """return import('/page/desk/calls.js').then(({ minutes }) =>
     minutes().words[0] !== undefined)"""
 SEARCH = """return (async (text, told) => {

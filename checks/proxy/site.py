@@ -18,6 +18,7 @@ from checks.support.wire import REFUSALS
 LEVEL = b"sbat,1,2021030218\n"
 STRICT = "Strict-Transport-Security: max-age=63072000"
 NOSNIFF = "X-Content-Type-Options: nosniff"
+OWN = "Cross-Origin-Resource-Policy: same-origin"
 # The body is sent at once, without asking first.
 AT_ONCE = ("-H", "Expect:")
 PEOPLES = f"people.{SITE}"
@@ -47,8 +48,8 @@ class Answer(NamedTuple):
     fields: str
 
     def strictly(self) -> None:
-        """It forbids HTTP without TLS, and to be taken for a script."""
-        assert {STRICT, NOSNIFF} <= {*self.fields.splitlines()}, self.fields
+        """It forbids HTTP without TLS, and to be a script or a picture of another site."""
+        assert {STRICT, NOSNIFF, OWN} <= {*self.fields.splitlines()}, self.fields
 
 
 class Site:
