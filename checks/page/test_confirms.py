@@ -79,3 +79,17 @@ def test_enter_confirms_nothing_and_ones_own_proposal_has_no_confirm(
     browser.go(f"proposals/{number}")
     browser.sees("You proposed it")
     assert "Confirm…" not in browser.texts("button")
+
+
+def test_a_phone_shows_few_of_many_entries_above_the_decision(
+    browser: Browser, site: Site
+) -> None:
+    rows = "".join(f"sha256,{number:064x},\n" for number in range(14))
+    site.does("otto", "/imports/csv", f"kind,value,generation\n{rows}".encode())
+    browser.sign_in(token("olga"))
+    for width, told in ((360, "1 to 5 of 14"), (1300, "Everything that it names")):
+        browser.width(width)
+        browser.go("inbox")
+        browser.go("proposals/1")
+        browser.sees(told, "Your decision")
+        expect(len(browser.all("tbody tr")), 5 if width == 360 else 14, f"the rows at {width}")

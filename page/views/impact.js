@@ -2,7 +2,7 @@
 
 import { box, h, p, quiet, section, strong } from './dom.js';
 import { requestLink } from './marks.js';
-import { paged } from './table.js';
+import { few, paged } from './table.js';
 import { byWords, counted, grouped, joined } from '../formats/words.js';
 
 /** @typedef {import('../desk/types.js').Barred} Barred */
@@ -58,7 +58,7 @@ export function impactPart(impact) {
             caption: 'Images that it bars',
             head: ['Request', 'Image', 'Today', 'Then barred by'],
             empty: '',
-            size: 20,
+            size: few(),
             row: barredRow,
         });
         // Those that are allowed today first: they are the harm.

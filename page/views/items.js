@@ -2,7 +2,7 @@
 
 import { h, p, strong } from './dom.js';
 import { digest, requestLink } from './marks.js';
-import { paged } from './table.js';
+import { few, paged } from './table.js';
 import { unknownWords } from '../desk/questions.js';
 import { counted, grouped } from '../formats/words.js';
 
@@ -32,7 +32,7 @@ export function itemsPart(proposal, known) {
         caption: 'Everything that it names',
         head: ['Kind', 'What', 'Known as'],
         empty: 'It names nothing.',
-        size: 20,
+        size: few(),
         row: ([kind, what, as]) => [kind, what, ['', as]],
     });
     table.set(rows);

@@ -30,6 +30,9 @@ function cellOf(cell, label, isHead) {
     return h('td', { class: name || null, role, 'data-label': label }, ...content);
 }
 
+// How many rows a part of a view shows at once: few where each is a card.
+export const few = () => (matchMedia('(max-width: 44rem)').matches ? 5 : 20);
+
 /**
  * @template T
  * @param {{ caption: string, head: string[], row: (value: T) => Child[],
