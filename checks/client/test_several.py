@@ -90,7 +90,7 @@ def test_what_is_refused_is_told_and_the_others_go_on(filled: Office) -> None:
     expect(said_, "request 2 reviewed: open\n", "what is printed")
     expect(rita.pending(), [], "the journal")
     filled.refuses("sid", "review 2 4 no", "refused 21 NotYourRole", "is for reviewers",
-                   "It stopped at request 2.", status=1)
+                   "It stopped at request 2; 1 more weren't sent.", status=1)
     expect(len(filled["raul"].json_lines("review 3 4 no --yes")), 2, "replies as JSON")
 
 
@@ -99,7 +99,8 @@ def test_a_lost_answer_keeps_the_keys_of_all_and_each_acts_once(
 ) -> None:
     raul, line = filled["raul"].at(between.url), "review 1 2 3 yes --retries 0"
     between.loses = [lambda request, ask: ask(request), NO_ANSWER]
-    said_ = raul.ends(3, line, "It stopped at request 2.", "1 of 3 have their answer", AGAIN)
+    said_ = raul.ends(3, line, "It stopped at request 2; 1 more weren't sent.",
+                      "1 of 3 have their answer", AGAIN)
     expect(said_, "request 1 reviewed: open\n", "what is printed")
     expect(len(raul.pending()), 1, "the journal")
     raul.does("pending", "review 1 2 3 yes")

@@ -71,7 +71,7 @@ def test_each_file_is_a_request(built: Office, between: Between) -> None:
     """A lost answer in between doubles none."""
     ann, line = built["ann"].at(between.url), f"submit {FILES} --title 'linux 6.12' --retries 0"
     between.loses = [lambda request, ask: ask(request), NO_ANSWER]
-    ann.ends(3, line, "It stopped at vmlinuz-cloud-amd64.", "1 of 3 have their answer")
+    ann.ends(3, line, "It stopped at vmlinuz-cloud-amd64; 1 more", "1 of 3 have their answer")
     ann.does(line, "request 1 submitted: linux 6.12 amd64\nfile ", "request 3 submitted",
              err=["taking up the keys"])
     expect(titles(built), TITLES, "the titles")

@@ -152,7 +152,8 @@ def exchange_each(run: Run, ones: Sequence[One], entry: Entry, taken: bool) -> i
                     status = REFUSED
                     continue
             if len(ones) > 1:
-                stop.more.insert(0, f"It stopped at {one.name}.")
+                rest = len(ones) - at - 1
+                stop.more.insert(0, f"It stopped at {one.name}; {rest} more weren't sent.")
             stopped(entry, stop, taken, f"{at} of {len(ones)} have their answer" if at else "")
             raise
         if run.words.json:
