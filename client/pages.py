@@ -141,6 +141,8 @@ FILES = (("~/.config/deskctl.conf",
           "The settings. `XDG_CONFIG_HOME` moves it, `DESKCTL_CONF` names another file."),
          ("~/.local/state/deskctl-watch/",
           "What `watch` told, a file for each caller. `XDG_STATE_HOME` moves it."),
+         ("~/.local/state/deskctl-seen/",
+          "How many calls a caller saw last. `XDG_STATE_HOME` moves it."),
          ("~/.local/state/deskctl/",
           ("The journal, a file for each command without an answer, of mode 0600. `XDG_STATE_HOME`"
            " moves it.")))

@@ -4,7 +4,6 @@ from __future__ import annotations
 
 import os
 import subprocess
-import sys
 from concurrent.futures import ThreadPoolExecutor
 from pathlib import Path
 from typing import Iterator
@@ -12,49 +11,8 @@ from typing import Iterator
 import pytest
 
 from checks.publish.mirror import served
-from checks.support.says import fail, note
+from checks.support.halves import Half
 from checks.support.tools import ROOT
-
-
-class Half:
-    """A machine of two: the files that desk-peer keeps, which nginx shows."""
-
-    def __init__(self, room: Path, name: str, term: int) -> None:
-        self.state, self.run = room / name / "state", room / name / "run"
-        for folder in (self.state, self.run):
-            folder.mkdir(parents=True)
-        self.term(term)
-
-    def term(self, number: int) -> None:
-        (self.state / "term").write_text(f"{number}\n")
-
-    def shows(self, path: str) -> Iterator[bytes] | None:
-        """As packaging/nginx-desk.conf does."""
-        folder = {"/term": self.state, "/serves": self.run}.get(path)
-        if not folder or not (folder / path[1:]).exists():
-            return None
-        return iter([(folder / path[1:]).read_bytes()])
-
-    @property
-    def serves(self) -> bool:
-        return (self.run / "serves").exists()
-
-    def ends(self) -> None:
-        """Its service has ended (ExecStopPost)."""
-        (self.run / "serves").unlink()
-
-    def asks(self, does: str, url: str, *more: str) -> tuple[int, str]:
-        words = [sys.executable, "-IB", str(ROOT / "packaging/desk-peer"), does, "--url", url]
-        words += ["--state", str(self.state), "--run", str(self.run), "--followed",
-                  str(self.state / "followed"), "--patience", "0", *more]
-        done = subprocess.run(words, capture_output=True, text=True, timeout=120, check=False)
-        note(" ".join(words), "", (done.returncode, done.stderr))
-        return done.returncode, done.stderr
-
-    def ended(self, does: str, url: str, status: int, says: str, *more: str) -> None:
-        found = self.asks(does, url, *more)
-        if found[0] != status or says not in found[1] or found[1].count("\n") != 1:
-            fail(f"desk-peer {does}: {found}, in place of {status} {says}")
 
 
 @pytest.fixture

@@ -101,7 +101,7 @@ class Reader(Site):
         """What the desk shows there."""
         return self.asked(path).data()
 
-    def same_term(self, path: str) -> None:
+    def same_term(self, path: str, state: str = terms.STATE) -> None:
         """Ends the run where the term of the desk's machine is below one that was seen, which the
         file keeps, or that of this machine. On loopback there is no site that shows it."""
         try:
@@ -109,7 +109,7 @@ class Reader(Site):
         except NoAnswer as fault:
             broken(f"GET /term: {fault}")
         seen = terms.kept(path)
-        most = max(seen, terms.kept(f"{terms.STATE}/term"))
+        most = max(seen, terms.kept(f"{state}/term"))
         if found is None and not self.where.tls:
             return
         if (found or 0) < most:
