@@ -1,5 +1,5 @@
-"""A standby isn't led astray: it takes what `desk follow` takes, and finds out a desk that goes back
-or shows other lists than its minutes give."""
+"""A standby isn't led astray: it takes what `desk follow` takes, and finds out a desk that goes
+back or shows other lists than its minutes give."""
 from __future__ import annotations
 
 import pytest

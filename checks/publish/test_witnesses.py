@@ -1,5 +1,5 @@
-"""Witnesses: a standby signs what its own `desk follow` reached, and nothing that goes back; so many
-signatures are published, and a mirror asks for them."""
+"""Witnesses: a standby signs what its own `desk follow` reached, and nothing that goes back; so
+many signatures are published, and a mirror asks for them."""
 from __future__ import annotations
 
 import subprocess

@@ -1,7 +1,7 @@
-"""How things stand before each page of packaging/runbooks, and what holds beside what is
-printed."""
+"""How things stand before each page of packaging/runbooks, and what holds beside its print."""
 from __future__ import annotations
 
+import contextlib
 import json
 import subprocess
 from pathlib import Path
@@ -72,8 +72,7 @@ def publishes(machine: Machine, first: str = " --first") -> None:
 def embargo(machine: Machine) -> None:
     worked(machine)
     publishes(machine)
-    folder = machine.room / "srv" / "embargo"
-    folder.mkdir()
+    (folder := machine.room / "srv/embargo").mkdir()
     for number in range(1, 301):
         machine.writes(f"srv/embargo/grubx64-{number:03d}.efi", signed(number), "olga")
     machine.owned(folder, "olga", 0o700)
@@ -92,11 +91,9 @@ def full_disk(machine: Machine) -> None:
     for file in saved.iterdir():
         machine.writes(f"state/{file.name}", file.read_bytes(), DESK)
     with open(state / "old-copy.tar.gz", "wb", buffering=0) as filler:
-        try:
+        with contextlib.suppress(OSError):
             while True:
                 filler.write(bytes(4096))
-        except OSError:
-            pass
     machine.system("start", "kovelamiru-desk")
 
 
@@ -117,8 +114,7 @@ def full_desk(machine: Machine) -> None:
     machine.system("start", "kovelamiru-desk")
     worked(machine)
     machine.does("olga", "/db/digests", named(f"{9:064}"))
-    raising = b'{"component":"grub","generation":3,"stamp":2026112700}'
-    machine.does("olga", "/level", raising)
+    machine.does("olga", "/level", b'{"component":"grub","generation":3,"stamp":2026112700}')
     machine.does("otto", "/proposals/2/confirm", b"")
     machine.does("olga", "/dbx/digests", named(authenticode(signed(2))))
     machine.does("otto", "/proposals/3/confirm", b"")
@@ -229,8 +225,8 @@ def refused(machine: Machine) -> None:
             machine.tokens["leaked"] = token
             status, _ = machine.asks("leaked", "/level", port=machine.proxy)
             expect(status, 401, f"a token of {name} that leaked")
-    listed = machine.room / "etc" / "nginx" / "kovelamiru-desk.leaked"
-    expect(listed.stat().st_mode & 0o077, 0, "others may read the list of leaked tokens")
+    listed = (machine.room / "etc/nginx/kovelamiru-desk.leaked").stat().st_mode
+    expect(listed & 0o077, 0, "others may read the list of leaked tokens")
 
 
 def shows_what(machine: Machine, before: Path) -> None:
@@ -263,9 +259,8 @@ def repeated(machine: Machine) -> None:
 def nobodys(machine: Machine) -> None:
     """The token for publishing is root's, and no person's; it reads the minutes. What is published
     is the desk's."""
-    path = machine.room / "etc" / "kovelamiru-publish.token"
-    token = path.read_text().strip()
-    if token in machine.tokens.values() or path.stat().st_mode & 0o077:
+    path = machine.room / "etc/kovelamiru-publish.token"
+    if (token := path.read_text().strip()) in machine.tokens.values() or path.stat().st_mode & 0o077:
         fail("the token for publishing is somebody's, or others read it")
     machine.tokens["publisher"] = token
     status, people = machine.asks("publisher", "/people", port=machine.proxy)
@@ -273,8 +268,8 @@ def nobodys(machine: Machine) -> None:
         fail(f"the officer for publishing: {status} {people.decode()}")
     if "--first" in (machine.room / "etc/default/kovelamiru-publish").read_text():
         fail("--first stays")
-    audit = (machine.room / "publish/published/audit.txt").read_text()
-    expect(audit.splitlines()[:1], ["calls 19"], "what is published")
+    audit = (machine.room / "publish/published/audit.txt").read_text().splitlines()
+    expect(audit[:1], ["calls 19"], "what is published")
 
 
 # The verdicts on the revoked image of full-desk, each that differs from the one before.
