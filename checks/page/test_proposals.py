@@ -49,9 +49,9 @@ def test_the_list_says_what_is_proposed_how_old_and_whose(browser: Browser, site
     words = f"digest {image[:8]}.. of {TITLE}, request 1, not allowed today"
     browser.sees(words, "grub to 4")
     expect(len(rows(browser)), 2, "the rows")
-    browser.field("Not mine").click()
+    browser.press("Not mine")
     until(10, "otto's alone", lambda: [words in row for row in rows(browser)] == [True])
-    browser.field("Not mine").click()
+    browser.press("Not mine")
     for text, due in (("16.1", 1), ("OLGA", 1), ("grub to", 1), ("fwupd", 0), ("", 2)):
         browser.fill("Filter by number, name or what it names", text)
         browser.has(f"{due} rows", f"return document.querySelectorAll('tbody tr').length == {due}")

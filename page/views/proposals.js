@@ -1,7 +1,7 @@
 // The proposals: what officers want to put into force.
 
 import { read } from './act.js';
-import { field, h, heading, quiet } from './dom.js';
+import { button, field, h, heading, quiet } from './dom.js';
 import { named } from './impact.js';
 import { badge, proposalLink } from './marks.js';
 import { choices, paged } from './table.js';
@@ -85,10 +85,10 @@ function list(place, proposals) {
             ];
         },
     });
-    let wanted = 'open';
+    let [wanted, isOthers] = ['open', false];
     const show = () => {
         const like = proposals.filter((row) => (
-            !(others.checked && row.officer === me.name)
+            !(isOthers && row.officer === me.name)
             && proposalMatches(row, search.value, marks.words(row.number))
         ));
         const rows = like.filter(({ state }) => wanted === 'all' || state === wanted);
@@ -102,10 +102,15 @@ function list(place, proposals) {
         states.focus();
     });
     const search = h('input', { type: 'search', autocomplete: 'off', oninput: show });
-    const others = h('input', { type: 'checkbox', id: 'not-mine', onchange: show });
     const filter = field('Filter by number, name or what it names', search);
-    const notMine = h('div', {}, others, ' ', h('label', { for: 'not-mine' }, 'Not mine'));
-    place.append(h('div', { class: 'tools' }, states.place, filter, notMine), told, table.place);
+    const others = button('Not mine', () => {
+        isOthers = !isOthers;
+        others.setAttribute('aria-pressed', String(isOthers));
+        show();
+    });
+    others.setAttribute('aria-pressed', 'false');
+    const tools = [states.place, h('div', { class: 'choices' }, others), filter];
+    place.append(h('div', { class: 'tools' }, tools), told, table.place);
     show();
     tellMore(place, proposals.filter(({ state }) => state === 'open'), marks);
 }
