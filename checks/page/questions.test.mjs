@@ -5,7 +5,7 @@ import { test } from 'node:test';
 
 import { json, rowBytes } from './cases.mjs';
 import {
-    carriedWords, issuedWords, plainQuestion, returnQuestion, twiceWords, unknownWords,
+    carriedWords, issuedWords, plainQuestion, returnQuestion, twiceQuestion, unknownWords,
     unlistQuestion, yesQuestion,
 } from '../../page/desk/questions.js';
 import { losingIn } from '../../page/desk/unlisting.js';
@@ -28,7 +28,7 @@ const now = {
 const plain = { number: 7, digest: '', signing: '', carried: [], components: [], votes: [] };
 
 for (const { name, file, asks = '' } of submits) {
-    test(`${name} is submitted`, () => assert.equal(twiceWords(own, file), asks));
+    test(`${name} is submitted`, () => assert.equal(twiceQuestion(own, file)?.words ?? '', asks));
 }
 
 for (const { name, asks, why = '', another = false, votes = [], ...facts } of yes) {

@@ -25,17 +25,18 @@ export function plainQuestion(name, number) {
 }
 
 /**
- * What is said of a file that the same person submitted before, as a request that was open or
- * approved, or that was signed.
+ * The request by which the same person submitted a file before, which is open or approved, or was
+ * signed; and what is said of it.
  * @param {import('./types.js').Request[]} own
  * @param {string} file
- * @returns {string} '' where nothing is said
+ * @returns {{ number: number, words: string } | null}
  */
-export function twiceWords(own, file) {
+export function twiceQuestion(own, file) {
     const states = ['open', 'approved', 'signed'];
     const last = own.filter((one) => one.file === file && states.includes(one.state)).pop();
-    if (!last) return '';
-    return filled(wire.questions.submit.twice, { number: last.number, state: last.state });
+    if (!last) return null;
+    const { number, state } = last;
+    return { number, words: filled(wire.questions.submit.twice, { number, state }) };
 }
 
 /**

@@ -11,7 +11,7 @@ import { barPlace, compared, sent } from './sending.js';
 import { get } from '../desk/api.js';
 import { Command } from '../desk/journal.js';
 import { listed } from '../desk/lists.js';
-import { twiceWords } from '../desk/questions.js';
+import { twiceQuestion } from '../desk/questions.js';
 import { me } from '../desk/session.js';
 import { wire } from '../formats/wire.js';
 import { textFault } from '../formats/words.js';
@@ -69,8 +69,11 @@ async function before(sha256) {
     }
     /** @type {Request[]} */
     const requests = answer.value;
-    const words = twiceWords(requests.filter(({ submitter }) => submitter === me.name), sha256);
-    return words ? box('care', words) : null;
+    const own = requests.filter(({ submitter }) => submitter === me.name);
+    const twice = twiceQuestion(own, sha256);
+    if (!twice) return null;
+    const { number, words } = twice;
+    return box('care', p(words), p(requestLink(number, `Look at request ${number}`)));
 }
 
 /**
