@@ -188,12 +188,7 @@ def machine_lost(machine: Machine) -> None:
     machine.burn()
     (machine.room / "state").rename(machine.room / "burnt")
     other.rename(machine.room / "state")
-    (machine.room.parent / "old").mkdir()
-    old = machine.old = Machine(Path(machine.program), machine.room.parent / "old")
-    for file in (machine.room / "burnt").iterdir():
-        old.writes(f"state/{file.name}", file.read_bytes(), DESK)
-    old.paired(machine, 1)
-    machine.paired(old, 0)
+    machine.had_before(machine.room / "burnt")
 
 
 def leaked(machine: Machine) -> None:

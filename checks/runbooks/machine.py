@@ -209,6 +209,15 @@ class Machine:
         (self.room / "supervise.pid").unlink()
         until(60, "the desk is gone", lambda: not listening(self.port))
 
+    def had_before(self, state: Path) -> None:
+        """The old machine, with these files of the desk; this one is its standby."""
+        (self.room.parent / "old").mkdir()
+        self.old = Machine(Path(self.program), self.room.parent / "old")
+        for file in state.iterdir():
+            self.old.writes(f"state/{file.name}", file.read_bytes(), DESK)
+        self.old.paired(self, 1)
+        self.paired(self.old, 0)
+
     def paired(self, other: Machine, term: int) -> None:
         """It asks the other one's nginx before its desk serves."""
         options = f"--url http://127.0.0.1:{other.proxy} --patience 0"
