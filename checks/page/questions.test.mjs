@@ -8,6 +8,7 @@ import {
     carriedWords, issuedWords, plainQuestion, returnQuestion, twiceQuestion, unknownWords,
     unlistQuestion, yesQuestion,
 } from '../../page/desk/questions.js';
+import { issuedDoubts, itemDoubts, knownOf } from '../../page/desk/doubts.js';
 import { losingIn } from '../../page/desk/unlisting.js';
 import { givenOf, namesIn } from '../../page/formats/certificates.js';
 import { tbsOf } from '../../page/formats/der.js';
@@ -123,4 +124,20 @@ test('an unlisting says how many lose their verdict, and the first of them', () 
     assert.match(first, /request 5 \(a loader\) and 1,229 more\.$/);
     assert.deepEqual(typed, { label: 'To unlist it, type Boot signer:', wanted: 'Boot signer' });
     assert.equal(unlistQuestion('x', 0, []).lines[0], wire.questions.unlist.none);
+});
+
+test('what a certificate issued is told at a Confirm, and at a proposal by its file', async () => {
+    const [{ listed, asks }] = issued;
+    const [ca, desk] = [await partOf('ca'), await standingOf({ listed: [...listed, 'ca'] })];
+    const now = {
+        listed: { ...desk.listed, digests: new Set() },
+        revoked: { ...desk.revoked, digests: new Set() },
+        level: { stamp: 2026112700, names: new Map() },
+    };
+    const named = { digests: [], certificates: [ca.tbs], components: [], stamp: null };
+    assert.deepEqual(itemDoubts(named, knownOf([], now)).map(({ text }) => text), [asks]);
+    now.listed.certificates.delete(ca.tbs);
+    assert.deepEqual(itemDoubts(named, knownOf([], now)), []);
+    const found = issuedDoubts([ca.tbs], knownOf([], now), new Map([[ca.tbs, ca]]));
+    assert.deepEqual(found.map(({ text }) => text), [asks]);
 });

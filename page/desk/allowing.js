@@ -7,7 +7,7 @@ import { filled, grouped, someOf } from '../formats/words.js';
 /** @typedef {import('../formats/revocations.js').Revocations} Revocations */
 
 /** How such a file is named: db.esl, MokListRT, KEK-8be4df61-.. of efivarfs; not dbx, MokListX. */
-const NAMES = /^(vendor_)?(db|kek|pk|moklist)(rt|default|update)?(?![a-z])/i;
+const NAMES = /(^|[^a-z])(db|kek|pk|moklist)(rt|default|update)?(?![a-z])/i;
 
 // Whether every entry is a whole certificate.
 /** @param {Revocations} found */

@@ -9,7 +9,7 @@ from .standing import Standing
 from .words import printable, some_of
 
 # How such a file is named: db.esl, MokListRT, KEK-8be4df61-.. of efivarfs; not dbx, nor MokListX.
-NAMES = re.compile(r"(vendor_)?(db|kek|pk|moklist)(rt|default|update)?(?![a-z])", re.I)
+NAMES = re.compile(r"(?:^|[^a-z])(?:db|kek|pk|moklist)(?:rt|default|update)?(?![a-z])", re.I)
 
 
 def is_whole(found: Revocations) -> bool:
@@ -24,7 +24,7 @@ def allow_doubts(name: str, found: Revocations, now: Standing) -> list[str]:
     entries = set(found.digests) | set(found.certificates)
     listed = sorted(entries & (now.digests | now.certificates.keys()))
     lacks = len(entries - now.revoked_digests - now.revoked_certificates)
-    doubts = [asks["name"].format(name=printable(name))] if NAMES.match(name) else []
+    doubts = [asks["name"].format(name=printable(name))] if NAMES.search(name) else []
     doubts += [asks["whole"]] if is_whole(found) else []
     if found.owners and now.owners >= found.owners.keys() and lacks:
         doubts.append(asks["own"].format(count=f"{lacks:,}"))
