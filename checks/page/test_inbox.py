@@ -117,7 +117,8 @@ def test_a_barred_image_is_marked_where_it_waits_and_in_the_list(
 
 
 def test_what_waits_is_in_the_list_while_that_is_read(browser: Browser, site: Site) -> None:
-    """A large desk's list, of which the second part is late."""
+    """A large desk's list, of which the second part is late. What has the focus keeps it as that
+    comes."""
     goes_on = threading.Event()
     old = [shown(number, "ann", f"old {number}", "signed", []) for number in range(1, 1001)]
     new = shown(1001, "ann", "the newest", "open", [])
@@ -125,9 +126,17 @@ def test_what_waits_is_in_the_list_while_that_is_read(browser: Browser, site: Si
     def shows(path: str) -> bytes | None:
         if path == "/requests/from/1001":
             goes_on.wait(60)
-            return said([new])
-        given = {"/requests/from/1": old, "/waiting": {"requests": [new], "proposals": []}}
+        given = {"/requests/from/1": old, "/requests/from/1001": [new],
+                 "/waiting": {"requests": [new], "proposals": []}}
         return said(given[path]) if path in given else None
+
+    def comes(focus: str) -> None:
+        """The second part, while this has the focus."""
+        goes_on.set()
+        browser.sees("All 1,001")
+        until(20, "the list is whole", lambda: "Reading" not in browser.text(), browser.text)
+        goes_on.clear()
+        expect(browser.script("return document.activeElement.textContent"), focus, "the focus")
 
     site.relay.shows = shows
     browser.sign_in(token("rita"))
@@ -136,5 +145,11 @@ def test_what_waits_is_in_the_list_while_that_is_read(browser: Browser, site: Si
     browser.sees("Reading from the desk", "Open 1", "Signed 1,000", "the newest")
     browser.press("Rejected 0")
     browser.sees("None so far: the list is still being read.")
-    goes_on.set()
-    browser.sees("No request is like this.", "Open 1", "All 1,001")
+    comes("Rejected 0")
+    browser.sees("No request is like this.", "Open 1")
+    browser.press("Open 1")
+    browser.go("inbox")
+    browser.script("location.hash = '#/requests'")
+    browser.sees("the newest")
+    browser.script("document.querySelector('td a').focus()")
+    comes("the newest")

@@ -2,10 +2,10 @@
 // those that are under way.
 
 import { read } from './act.js';
-import { fill, focusHeading, h, heading, p, quiet } from './dom.js';
+import { fill, h, heading, p, quiet } from './dom.js';
 import { named } from './impact.js';
 import { badge, barredBadge, proposalLink, requestLink } from './marks.js';
-import { paged } from './table.js';
+import { keepingFocus, paged } from './table.js';
 import { ownProposals, times } from '../desk/proposed.js';
 import { me, withYou } from '../desk/session.js';
 import { barredBy, standing } from '../desk/standing.js';
@@ -61,18 +61,6 @@ export function inboxView(place) {
     show();
     more();
     return look();
-}
-
-// Fills a place anew; a link in it that had the focus has it again, or the heading if it is gone.
-/** @param {HTMLElement} place @param {() => void} make */
-function keepingFocus(place, make) {
-    const focused = document.activeElement;
-    const had = place.contains(focused) ? focused?.getAttribute('href') : undefined;
-    make();
-    if (had === undefined) return;
-    const same = [...place.querySelectorAll('a')].find((one) => one.getAttribute('href') === had);
-    if (same) same.focus({ preventScroll: true });
-    else focusHeading(place);
 }
 
 /** @type {Record<string, string>} what is said where nothing waits, by role */

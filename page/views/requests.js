@@ -3,7 +3,7 @@
 import { read } from './act.js';
 import { field, h, heading, quiet } from './dom.js';
 import { badge, barredBadge, requestLink } from './marks.js';
-import { choices, paged } from './table.js';
+import { choices, keepingFocus, paged } from './table.js';
 import { listed } from '../desk/lists.js';
 import { requestMatches } from '../desk/search.js';
 import { me, withYou } from '../desk/session.js';
@@ -125,6 +125,6 @@ function queue(place) {
     }
     return (some, isWhole) => {
         [requests, isRead] = [some, isWhole];
-        show();
+        keepingFocus(table.place, show);
     };
 }

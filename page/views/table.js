@@ -1,7 +1,7 @@
 // Tables; of one with many rows only a page is made, so that ten thousand rows cost no more than a
 // hundred.
 
-import { button, fill, h, quiet } from './dom.js';
+import { button, fill, focusHeading, h, quiet } from './dom.js';
 import { grouped } from '../formats/words.js';
 
 /** @typedef {import('./dom.js').Child} Child */
@@ -105,17 +105,34 @@ export function choices(label, all, take) {
     const place = h('div', { class: 'choices', role: 'group', 'aria-label': label });
     /** @param {string} now @param {Record<string, number>} counts */
     function show(now, counts) {
-        fill(place, all.map(([value, text]) => {
+        keepingFocus(place, () => fill(place, all.map(([value, text]) => {
             const count = h('span', { class: 'count' }, grouped(counts[value] ?? 0));
             const one = button(text, () => take(value));
+            one.dataset.value = value;
             one.setAttribute('aria-pressed', String(value === now));
             one.append(' ', count);
             return one;
-        }));
+        })));
     }
     // Puts the focus on the pressed one, which `show` has made anew.
     function focus() {
         /** @type {HTMLElement | null} */ (place.querySelector('[aria-pressed="true"]'))?.focus();
     }
     return { place, show, focus };
+}
+
+/** @param {Element | null} one */
+const nameOf = (one) => one?.getAttribute('href') ?? one?.getAttribute('data-value');
+
+// Fills a place anew; a link or a choice in it that had the focus has it again, or the heading if
+// that is gone.
+/** @param {HTMLElement} place @param {() => void} make */
+export function keepingFocus(place, make) {
+    const focused = place.contains(document.activeElement) ? document.activeElement : null;
+    make();
+    if (!focused) return;
+    const name = nameOf(focused);
+    const found = [...place.querySelectorAll('a, button')].find((one) => nameOf(one) === name);
+    if (name && found instanceof HTMLElement) found.focus({ preventScroll: true });
+    else focusHeading(place);
 }
