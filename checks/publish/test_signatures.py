@@ -73,6 +73,16 @@ def test_an_update_that_no_firmware_takes_is_refused(signed: Place, time: str, s
     signed.shows(11)
 
 
+def test_the_update_before_may_be_some_publications_ago(signed: Place) -> None:
+    """Which had none."""
+    for one in (9, 10):
+        signed.proposes("olga", "/dbx/digests", named(number(one)))
+        signed.publish(0, ": published")
+    signed.proposes("olga", "/dbx/digests", named(number(11)))
+    words = ("--sign", dated(signed, "late", "-t '2020-01-01 00:00:00'"))
+    signed.publish(1, "its time 2020-01-01 00:00:00 isn't after 20", *words)
+
+
 def test_an_update_of_the_same_second_is_of_the_same_list(signed: Place) -> None:
     """Firmware takes no other one: its time isn't later."""
     was = efi_time((signed.link / "dbx.auth").read_bytes())

@@ -53,8 +53,18 @@ def published(link: str) -> Before:
         unpublished(link, "minutes.txt", "audit.txt is of other files")
     if of_db and of_db.get("db") != digest(found.db):
         unpublished(link, "db.esl", f"{DB_AUDIT} is of another one")
-    times = {name: efi_time(one) for name, one in data.items() if name.endswith(".auth")}
-    return Before(found, date, firsts_of(data[JSON]) if JSON in data else {}, times)
+    return Before(found, date, firsts_of(data[JSON]) if JSON in data else {}, times_of(link))
+
+
+def times_of(link: str) -> dict[str, Optional[str]]:
+    """The time of the last update of each list: that of the newest folder that has one."""
+    found = {}
+    for one in folders(link):
+        for name in ("dbx", "db"):
+            path = os.path.join(os.path.dirname(link), one, f"{name}.auth")
+            if os.path.lexists(path):
+                found[name] = efi_time(read(path))
+    return found
 
 
 def folders(link: str) -> list[str]:

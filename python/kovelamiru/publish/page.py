@@ -65,7 +65,7 @@ class Before:
     # When each entry of its dbx was published first; none for one that was published before there
     # was a dbx.json.
     firsts: dict[Entry, Optional[str]]
-    # The time of each authenticated update.
+    # The time of the last authenticated update of each list.
     times: dict[str, Optional[str]]
 
 

@@ -60,7 +60,7 @@ def untimely(made: bytes, name: str, data: bytes, last: Optional[Before]) -> str
     appends may have none."""
     if not any(made[:16]):
         return ""
-    when, was = efi_time(made), last.times.get(f"{name}.auth") if last else None
+    when, was = efi_time(made), last.times.get(name) if last else None
     latest = time.strftime("%Y-%m-%d %H:%M:%S", time.gmtime(time.time() + 86400))
     same = last is not None and getattr(last.found, name) == data
     if when is None or any(made[7:16]):
