@@ -104,7 +104,7 @@ def test_two_runs_with_one_date_make_the_same_bytes(page: Place) -> None:
     expect(run(), first, "the second run")
     page.publish(0, ": nothing new", *words)
     expect(files(), first, "after a run with nothing new")
-    late = ("publish/page.py", "<title>", "<title>{time.time_ns()} ")
+    late = ("publish/page.py", "<title>", "<title>{__import__('time').time_ns()} ")
     assert run(page.changed("late", late)) != first, "a page with the moment isn't seen"
 
 
