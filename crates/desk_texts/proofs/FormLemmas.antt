@@ -1,10 +1,10 @@
--- Bytes of names, keys, titles and notes.
-use Rattle.std.proofs.Common.{◌≡◌, ℕ, zero, suc, leb, Bool, true, false, ◌&&◌, List, [], ◌∷◌, length, get_or, refl, arith}
+-- Bytes of names, keys, titles, notes and reasons.
+use Rattle.std.proofs.Common.{◌≡◌, ℕ, zero, suc, leb, Bool, true, false, ◌&&◌, ◌-◌, List, [], ◌∷◌, length, get_or, refl, arith}
 use Rattle.std.specs.Char.{is_ascii_lowercase}
 use Rattle.std.specs.List.{list_all}
 use Rattle.std.specs.Str.{IsAscii}
 use Rattle.std.proofs.lemmas.Bool.Decides.{nat_tests}
-use Rattle.desk_texts.specs.Forms.{is_between, is_name_byte, is_person_name, is_key, is_title, is_note}
+use Rattle.desk_texts.specs.Forms.{is_between, is_name_byte, is_person_name, is_key, is_title, is_note, is_reason, is_space}
 
 pub both : (a b : Bool) → (a && b) ≡ true → (a ≡ true) × (b ≡ true)
 both true b h = (refl, h)
@@ -52,3 +52,6 @@ printable-title bs h = (both (leb 1 (length bs) && leb (length bs) 120) (list_al
 
 pub printable-note : (bs : List ℕ) → is_note bs ≡ true → list_all (is_between 32 126) bs ≡ true
 printable-note bs h = (both (leb (length bs) 200) (list_all (is_between 32 126) bs) h).1
+
+pub printable-reason : (bs : List ℕ) → is_reason bs ≡ true → list_all (is_between 32 126) bs ≡ true
+printable-reason bs h = (both _ (list_all (is_between 32 126) bs) h).1

@@ -6,12 +6,13 @@ use Rattle.sbat.specs.declared.component.Component.{Component}
 use Rattle.sbat.specs.Fields.{decimal_of}
 use Rattle.desk_texts.specs.Certificates.{WholeCertificate}
 use Rattle.desk_texts.specs.Commands.{IsCommand, IsCount, IsDigest, IsFacts, IsImport}
-use Rattle.desk_texts.specs.Forms.{is_name_byte, is_person_name, is_request_number}
+use Rattle.desk_texts.specs.Forms.{is_name_byte, is_person_name, is_proposal_number, is_request_number}
 use Rattle.desk_texts.specs.Imports.{Imported}
 use Rattle.desk_texts.specs.Items.{components_text, digests_text, facts_text, spaced, stamp_text}
 use Rattle.desk_texts.specs.Words.{kind_text, role_text, vote_text}
 use Rattle.desk_texts.specs.declared.command.Ballot.{Ballot}
 use Rattle.desk_texts.specs.declared.command.Command.TheVariants.{RaiseLevel}
+use Rattle.desk_texts.specs.declared.command.Explanation.{Explanation}
 use Rattle.desk_texts.specs.declared.command.ReturnedFile.{ReturnedFile}
 use Rattle.desk_texts.specs.declared.command.Listing.{Listing}
 use Rattle.desk_texts.specs.declared.command.Person.{Person}
@@ -141,6 +142,19 @@ ballot_read b h =
     let parts = fields-more 1 (decimal b.request) (spaced (vote_text b.vote ∷ b.note ∷ [])) _ (decimal_free b.request small)
     (fields-more 0 (vote_text b.vote) b.note _ (vote_free b.vote) refl) in
     ap ballot_of parts ∙ ap₂ (λ n v. ballot n v b.note) (decimal_read b.request small) (vote_read b.vote)
+
+abbrev explanation : ℕ → List ℕ → Explanation
+explanation proposal reason = record { proposal = proposal; reason = reason }
+
+abbrev pub explanation_of : List (List ℕ) → Explanation
+explanation_of parts = explanation (decimal_of (field parts 0)) (field parts 1)
+
+pub explanation_read : (e : Explanation) → is_proposal_number e.proposal ≡ true
+    → explanation_of (fields 1 (spaced (decimal e.proposal ∷ e.reason ∷ []))) ≡ e
+explanation_read e h =
+    let small = request_small e.proposal h in
+    let parts = fields-more 0 (decimal e.proposal) e.reason _ (decimal_free e.proposal small) refl in
+    ap explanation_of parts ∙ ap (λ n. explanation n e.reason) (decimal_read e.proposal small)
 
 abbrev returned_file : ℕ → Facts → ReturnedFile
 returned_file request f = record { request = request; facts = f }

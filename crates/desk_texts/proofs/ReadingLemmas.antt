@@ -6,9 +6,9 @@ use Rattle.sbat.specs.Fields.{decimal_of}
 use Rattle.desk_texts.specs.Commands.{IsCommand}
 use Rattle.desk_texts.specs.CommandTexts.{text_of}
 use Rattle.desk_texts.specs.declared.command.Command.{Command}
-use Rattle.desk_texts.specs.declared.command.Command.TheVariants.{AddPerson, Submit, Review, Withdraw, Return, ListCertificate, ListDigest, Unlist, RevokeDigest, RevokeCertificate, RaiseLevel, ImportRevocations, Confirm, Drop}
+use Rattle.desk_texts.specs.declared.command.Command.TheVariants.{AddPerson, Submit, Review, Withdraw, Return, ListCertificate, ListDigest, Unlist, RevokeDigest, RevokeCertificate, RaiseLevel, ImportRevocations, Confirm, Drop, Explain}
 use Rattle.desk_texts.proofs.FieldLemmas.{after, before, fields}
-use Rattle.desk_texts.proofs.PartLemmas.{ballot_of, ballot_read, certificate_of, certificate_read, handback_of, handback_read, import_of, import_read, listing_of, listing_read, person_of, person_read, raise_of, raise_read, request_small, submission_of, submission_read}
+use Rattle.desk_texts.proofs.PartLemmas.{ballot_of, ballot_read, certificate_of, certificate_read, explanation_of, explanation_read, handback_of, handback_read, import_of, import_read, listing_of, listing_read, person_of, person_read, raise_of, raise_read, request_small, submission_of, submission_read}
 use Rattle.desk_texts.proofs.ValueLemmas.{decimal_read, hex_in, hex_read}
 
 abbrev chosen : List ℕ → List ℕ → Command
@@ -26,7 +26,8 @@ chosen word rest =
     (cond (bytes_eq word (codes "raise")) (RaiseLevel (raise_of (fields 2 rest)))
     (cond (bytes_eq word (codes "confirm")) (Confirm (decimal_of rest))
     (cond (bytes_eq word (codes "drop")) (Drop (decimal_of rest))
-    (ImportRevocations (import_of (fields 4 rest)))))))))))))))
+    (cond (bytes_eq word (codes "explain")) (Explain (explanation_of (fields 1 rest)))
+    (ImportRevocations (import_of (fields 4 rest))))))))))))))))
 
 -- the command of a text
 abbrev command_in : List ℕ → Command
@@ -47,6 +48,7 @@ command_read (RaiseLevel r) h = ap RaiseLevel (raise_read r h)
 command_read (ImportRevocations i) h = ap ImportRevocations (import_read i h)
 command_read (Confirm proposal) h = ap Confirm (decimal_read proposal (request_small proposal h))
 command_read (Drop proposal) h = ap Drop (decimal_read proposal (request_small proposal h))
+command_read (Explain e) h = ap Explain (explanation_read e h.0)
 
 -- commands of one text are one command
 pub text_of-same : (a b : Command) → IsCommand a → IsCommand b → text_of a ≡ text_of b → a ≡ b

@@ -11,7 +11,7 @@ use Rattle.desk_texts.specs.declared.reply.Confirmation.{Confirmation}
 use Rattle.desk_texts.specs.declared.reply.Counts.{Counts}
 use Rattle.desk_texts.specs.declared.reply.Outcome.{Outcome}
 use Rattle.desk_texts.specs.declared.reply.Reply.{Reply}
-use Rattle.desk_texts.specs.declared.reply.Reply.TheVariants.{Added, Submitted, Reviewed, Withdrawn, Returned, Listed, Unlisted, Revoked, Raised, Imported, Proposed, Confirmed, Dropped}
+use Rattle.desk_texts.specs.declared.reply.Reply.TheVariants.{Added, Submitted, Reviewed, Withdrawn, Returned, Listed, Unlisted, Revoked, Raised, Imported, Proposed, Confirmed, Dropped, Explained}
 use Rattle.desk_texts.specs.declared.state.State.{State}
 use Rattle.desk_texts.proofs.FieldLemmas.{after, after-is, before, before-is, field, fields, fields-more}
 use Rattle.desk_texts.proofs.PartLemmas.{request_small}
@@ -84,7 +84,8 @@ chosen word rest =
     (cond (bytes_eq word (codes "proposed")) (Proposed (decimal_of rest))
     (cond (bytes_eq word (codes "confirmed")) (Confirmed (confirmation_of rest))
     (cond (bytes_eq word (codes "dropped")) (Dropped (decimal_of rest))
-    (Imported (counts_of (fields 3 rest))))))))))))))
+    (cond (bytes_eq word (codes "explained")) (Explained (decimal_of rest))
+    (Imported (counts_of (fields 3 rest)))))))))))))))
 
 -- the reply of a text
 abbrev reply_in : List ℕ → Reply
@@ -104,6 +105,7 @@ reply_read (Imported c) h = ap Imported (counts_read c h)
 reply_read (Proposed proposal) h = ap Proposed (decimal_read proposal (request_small proposal h))
 reply_read (Confirmed c) h = ap Confirmed (confirmation_read c h)
 reply_read (Dropped proposal) h = ap Dropped (decimal_read proposal (request_small proposal h))
+reply_read (Explained proposal) h = ap Explained (decimal_read proposal (request_small proposal h))
 
 -- replies of one text are one reply
 pub reply_text_of-same : (a b : Reply) → IsReply a → IsReply b → reply_text_of a ≡ reply_text_of b → a ≡ b

@@ -5,7 +5,7 @@ use Rattle.hex.specs.Hex.{encode_lower}
 use Rattle.desk_texts.specs.Words.{role_text, vote_text, kind_text}
 use Rattle.desk_texts.specs.Items.{spaced, digests_text, components_text, stamp_text, facts_text}
 use Rattle.desk_texts.specs.declared.command.Command.{Command}
-use Rattle.desk_texts.specs.declared.command.Command.TheVariants.{AddPerson, Submit, Review, Withdraw, Return, ListCertificate, ListDigest, Unlist, RevokeDigest, RevokeCertificate, RaiseLevel, ImportRevocations, Confirm, Drop}
+use Rattle.desk_texts.specs.declared.command.Command.TheVariants.{AddPerson, Submit, Review, Withdraw, Return, ListCertificate, ListDigest, Unlist, RevokeDigest, RevokeCertificate, RaiseLevel, ImportRevocations, Confirm, Drop, Explain}
 
 -- the word and the parts of a command
 abbrev pub parts_of : Command → List (List ℕ)
@@ -25,6 +25,7 @@ parts_of (ImportRevocations i) =
     ∷ components_text i.components ∷ []
 parts_of (Confirm proposal) = codes "confirm" ∷ decimal proposal ∷ []
 parts_of (Drop proposal) = codes "drop" ∷ decimal proposal ∷ []
+parts_of (Explain e) = codes "explain" ∷ decimal e.proposal ∷ e.reason ∷ []
 
 -- the text of a command
 abbrev pub text_of : Command → List ℕ

@@ -4,16 +4,16 @@ use Rattle.std.specs.Prelude.{◌≡◌, ℕ, ◌<◌, ◌^◌, List, Option, So
 use Rattle.hex.specs.Hex.{IsBytes}
 use Rattle.sbat.specs.declared.component.Component.{Component}
 use Rattle.sbat.specs.Fields.{is_generation, is_name, is_stamp}
-use Rattle.desk_texts.specs.Forms.{is_note, is_person_name, is_proposal_number, is_request_number, is_title}
+use Rattle.desk_texts.specs.Forms.{is_note, is_person_name, is_proposal_number, is_reason, is_request_number, is_title}
 use Rattle.desk_texts.specs.Imports.{Imported}
 use Rattle.desk_texts.specs.declared.facts.Facts.{Facts}
 use Rattle.desk_texts.specs.declared.caller.Caller.{Caller}
 use Rattle.desk_texts.specs.declared.caller.Caller.TheVariants.{Console, Person}
 use Rattle.desk_texts.specs.declared.command.Command.{Command}
-use Rattle.desk_texts.specs.declared.command.Command.TheVariants.{AddPerson, Submit, Review, Withdraw, Return, ListCertificate, ListDigest, Unlist, RevokeDigest, RevokeCertificate, RaiseLevel, ImportRevocations, Confirm, Drop}
+use Rattle.desk_texts.specs.declared.command.Command.TheVariants.{AddPerson, Submit, Review, Withdraw, Return, ListCertificate, ListDigest, Unlist, RevokeDigest, RevokeCertificate, RaiseLevel, ImportRevocations, Confirm, Drop, Explain}
 use Rattle.desk_texts.specs.declared.reply.Counts.{Counts}
 use Rattle.desk_texts.specs.declared.reply.Reply.{Reply}
-use Rattle.desk_texts.specs.declared.reply.Reply.TheVariants.{Added, Submitted, Reviewed, Withdrawn, Returned, Imported as Counted, Proposed, Confirmed, Dropped}
+use Rattle.desk_texts.specs.declared.reply.Reply.TheVariants.{Added, Submitted, Reviewed, Withdrawn, Returned, Imported as Counted, Proposed, Confirmed, Dropped, Explained}
 
 -- 32 bytes
 pub record IsDigest (digest : List ℕ) : Type 0 where
@@ -68,6 +68,7 @@ IsCommand (RaiseLevel r) = IsComponent r.component × (is_stamp r.stamp ≡ true
 IsCommand (ImportRevocations i) = IsImport i
 IsCommand (Confirm proposal) = is_proposal_number proposal ≡ true
 IsCommand (Drop proposal) = is_proposal_number proposal ≡ true
+IsCommand (Explain e) = (is_proposal_number e.proposal ≡ true) × (is_reason e.reason ≡ true)
 
 -- a person who calls has a person's name
 abbrev pub IsCaller : Caller → Type 0
@@ -89,4 +90,5 @@ IsReply (Counted c) = AreCounts c
 IsReply (Proposed proposal) = is_proposal_number proposal ≡ true
 IsReply (Confirmed c) = (is_proposal_number c.proposal ≡ true) × AreCounts c.counts
 IsReply (Dropped proposal) = is_proposal_number proposal ≡ true
+IsReply (Explained proposal) = is_proposal_number proposal ≡ true
 IsReply _ = Unit {0}

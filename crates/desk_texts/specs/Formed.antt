@@ -9,7 +9,7 @@ use Rattle.desk_texts.specs.Imports.{Imported, named_count}
 use Rattle.desk_texts.specs.Raising.{names_no_sbat}
 use Rattle.desk_texts.specs.declared.command.Call.{Call}
 use Rattle.desk_texts.specs.declared.command.Command.{Command}
-use Rattle.desk_texts.specs.declared.command.Command.TheVariants.{AddPerson, Submit, Review, Withdraw, Return, ListCertificate, ListDigest, Unlist, RevokeDigest, RevokeCertificate, RaiseLevel, ImportRevocations, Confirm, Drop}
+use Rattle.desk_texts.specs.declared.command.Command.TheVariants.{AddPerson, Submit, Review, Withdraw, Return, ListCertificate, ListDigest, Unlist, RevokeDigest, RevokeCertificate, RaiseLevel, ImportRevocations, Confirm, Drop, Explain}
 use Rattle.desk_texts.specs.declared.facts.Facts.{Facts}
 
 -- own: the limits of an image's file and gap; its certificates ascend, each once
@@ -41,6 +41,7 @@ IsWithin (RaiseLevel _) = Unit {0}
 IsWithin (ImportRevocations i) = IsImportWithin i
 IsWithin (Confirm _) = Unit {0}
 IsWithin (Drop _) = Unit {0}
+IsWithin (Explain _) = Unit {0}
 
 -- The caller, the key and all values of the command are in their forms and within their limits.
 pub record IsCall (c : Call) : Type 0 where

@@ -1,6 +1,6 @@
--- The forms of the desk's texts: own: names, keys, titles and notes; and of the numbers of requests
--- and proposals.
-use Rattle.std.specs.Prelude.{ℕ, Bool, ◌&&◌, ◌||◌, ◌==◌, nat_le, length, slice_index, not, List}
+-- The forms of the desk's texts: own: names, keys, titles, notes and reasons; and of the numbers of
+-- requests and proposals.
+use Rattle.std.specs.Prelude.{ℕ, Bool, ◌&&◌, ◌||◌, ◌==◌, ◌-◌, nat_le, length, slice_index, not, List}
 use Rattle.std.specs.Char.{is_ascii_digit, is_ascii_lowercase}
 use Rattle.std.specs.List.{list_all}
 
@@ -11,6 +11,10 @@ is_between low high byte = nat_le low byte && nat_le byte high
 -- a to z, 0 to 9 or a hyphen
 abbrev pub is_name_byte : ℕ → Bool
 is_name_byte byte = is_ascii_lowercase byte || is_ascii_digit byte || (byte == 45)
+
+-- a space
+abbrev pub is_space : ℕ → Bool
+is_space byte = byte == 32
 
 -- own: the most bytes of a person's name
 abbrev pub longest_name : ℕ
@@ -27,6 +31,10 @@ longest_title = 120
 -- own: the most bytes of a note
 abbrev pub longest_note : ℕ
 longest_note = 200
+
+-- own: the most bytes of a reason
+abbrev pub longest_reason : ℕ
+longest_reason = 200
 
 -- own: the greatest number of a request or a proposal
 abbrev pub greatest_number : ℕ
@@ -53,6 +61,13 @@ is_title text = nat_le 1 (length text) && nat_le (length text) longest_title && 
 abbrev pub is_note : List ℕ → Bool
 is_note text = nat_le (length text) longest_note && list_all (is_between 32 126) text
 
+-- own: a reason is 1 to 200 characters of ASCII, visible or spaces, neither the first nor the last a
+-- space
+abbrev pub is_reason : List ℕ → Bool
+is_reason text =
+    nat_le 1 (length text) && nat_le (length text) longest_reason && not (is_space (slice_index text 0))
+    && not (is_space (slice_index text (length text - 1))) && list_all (is_between 32 126) text
+
 -- own: requests and proposals are numbered from 1 to 999,999
 abbrev pub is_ordinal : ℕ → Bool
 is_ordinal number = is_between 1 greatest_number number
@@ -74,10 +89,6 @@ is_decimal text =
 abbrev pub is_numeral : List ℕ → Bool
 is_numeral text =
     nat_le 1 (length text) && (nat_le (length text) 1 || not (slice_index text 0 == 48)) && list_all is_ascii_digit text
-
--- a space
-abbrev pub is_space : ℕ → Bool
-is_space byte = byte == 32
 
 -- own: one import has at most 10,000 entries
 abbrev pub most_imported : ℕ

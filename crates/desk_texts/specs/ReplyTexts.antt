@@ -3,7 +3,7 @@ use Rattle.std.specs.Prelude.{ℕ, List, [], ◌∷◌, codes, decimal}
 use Rattle.desk_texts.specs.Words.{state_text}
 use Rattle.desk_texts.specs.Items.{spaced}
 use Rattle.desk_texts.specs.declared.reply.Reply.{Reply}
-use Rattle.desk_texts.specs.declared.reply.Reply.TheVariants.{Added, Submitted, Reviewed, Withdrawn, Returned, Listed, Unlisted, Revoked, Raised, Imported, Proposed, Confirmed, Dropped}
+use Rattle.desk_texts.specs.declared.reply.Reply.TheVariants.{Added, Submitted, Reviewed, Withdrawn, Returned, Listed, Unlisted, Revoked, Raised, Imported, Proposed, Confirmed, Dropped, Explained}
 
 -- the word and the parts of a reply
 abbrev pub reply_parts : Reply → List (List ℕ)
@@ -23,6 +23,7 @@ reply_parts (Confirmed c) =
     codes "confirmed" ∷ decimal c.proposal ∷ decimal c.counts.digests ∷ decimal c.counts.certificates
     ∷ decimal c.counts.components ∷ decimal c.counts.passed ∷ []
 reply_parts (Dropped proposal) = codes "dropped" ∷ decimal proposal ∷ []
+reply_parts (Explained proposal) = codes "explained" ∷ decimal proposal ∷ []
 
 -- the text of a reply
 abbrev pub reply_text_of : Reply → List ℕ

@@ -72,6 +72,8 @@ WritesCommands =
     ≡ codes "import 2024010100 0 - 0cc1 3:grub")
     × (text_of (command.Confirm 1) ≡ codes "confirm 1")
     × (text_of (command.Drop 999999) ≡ codes "drop 999999")
+    × (text_of (command.Explain (record { proposal = 7; reason = codes "CVE-2026-1234, by the vendor" }))
+    ≡ codes "explain 7 CVE-2026-1234, by the vendor")
 
 -- the text of each reply
 abbrev pub WritesReplies : Type 0
@@ -92,3 +94,4 @@ WritesReplies =
     × (reply_text_of (replies.Confirmed (record { proposal = 1; counts = record { digests = 1; certificates = 1; components = 0; passed = 1 } }))
     ≡ codes "confirmed 1 1 1 0 1")
     × (reply_text_of (replies.Dropped 2) ≡ codes "dropped 2")
+    × (reply_text_of (replies.Explained 12) ≡ codes "explained 12")

@@ -1,7 +1,7 @@
 //! Calls of the desk and their commands.
 
 use crate::{
-    Caller, Certificate, Facts, Import, Key, ListedKind, Note, PersonName, ProposalNumber,
+    Caller, Certificate, Facts, Import, Key, ListedKind, Note, PersonName, ProposalNumber, Reason,
     RequestNumber, Role, Title, Vote,
 };
 use desk_bytes::Digest;
@@ -52,6 +52,13 @@ pub struct Raise {
     pub stamp: Stamp,
 }
 
+/// An officer's reason for a proposal.
+#[derive(Debug, Drop)]
+pub struct Explanation {
+    pub proposal: ProposalNumber,
+    pub reason: Reason,
+}
+
 /// A caller's command to the desk.
 #[derive(Debug, Drop)]
 pub enum Command {
@@ -69,6 +76,7 @@ pub enum Command {
     ImportRevocations(Import),
     Confirm(ProposalNumber),
     Drop(ProposalNumber),
+    Explain(Explanation),
 }
 
 /// A command, its caller, and the key under which the caller gives it.

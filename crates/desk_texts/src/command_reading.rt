@@ -13,7 +13,8 @@ ghost use Rattle.desk_texts.specs.Raising.{names_no_sbat};
 ghost use Rattle.desk_texts.specs.Reading.{IsLong, behind_word};
 ghost use Rattle.desk_texts.specs.declared.command.Ballot.{Ballot};
 ghost use Rattle.desk_texts.specs.declared.command.Command.{Command};
-ghost use Rattle.desk_texts.specs.declared.command.Command.TheVariants.{AddPerson, Submit, Review, Return, ListCertificate, Unlist, RaiseLevel, ImportRevocations};
+ghost use Rattle.desk_texts.specs.declared.command.Command.TheVariants.{AddPerson, Submit, Review, Return, ListCertificate, Unlist, RaiseLevel, ImportRevocations, Explain};
+ghost use Rattle.desk_texts.specs.declared.command.Explanation.{Explanation};
 ghost use Rattle.desk_texts.specs.declared.command.Listing.{Listing};
 ghost use Rattle.desk_texts.specs.declared.command.Person.{Person};
 ghost use Rattle.desk_texts.specs.declared.command.Raise.{Raise};
@@ -30,9 +31,9 @@ use crate::items_reading::{
 };
 use crate::reply_reading::number_behind;
 use crate::{
-    Ballot, Certificate, Command, Digests, Import, ImportedComponents, ListedKind, Listing, Note,
-    Person, PersonName, ProposalNumber, Raise, RequestNumber, ReturnedFile, Role, Submission,
-    TextFault, Title, Vote,
+    Ballot, Certificate, Command, Digests, Explanation, Import, ImportedComponents, ListedKind,
+    Listing, Note, Person, PersonName, ProposalNumber, Raise, Reason, RequestNumber, ReturnedFile,
+    Role, Submission, TextFault, Title, Vote,
 };
 use desk_bytes::Digest;
 use std::alloc::{AllocError, Global};
@@ -238,6 +239,25 @@ fn import_of(alloc: Global, text: &[u8]) -> Result<Import, TextFault>
     }
 }
 
+/// The explanation of a number and a reason. Takes memory for the reason.
+fn explanation_of(alloc: Global, text: &[u8]) -> Result<Explanation, TextFault>
+    ensures found { IfOk result (λ explanation. text.now ≡ behind_word (Explain explanation)) }
+    ensures only { IsErrOf result TextFault.Form → (explanation : Explanation)
+        → IsCommand (Explain explanation) → IsWithin (Explain explanation)
+        → text.now ≢ behind_word (Explain explanation) }
+{
+    let Some((proposal, reason)) = parted_at_space(text) else {
+        return Err(TextFault::Form);
+    };
+    let Some(proposal) = ProposalNumber::parse(proposal) else {
+        return Err(TextFault::Form);
+    };
+    match Reason::parse(alloc, reason) {
+        Ok(reason) => Ok(Explanation { proposal, reason }),
+        Err(fault) => Err(fault),
+    }
+}
+
 /// The digest after this beginning.
 fn digest_behind(beginning: &[u8], text: &[u8]) -> Option<Digest>
     ensures found { IfSome result (λ digest. text.now ≡ beginning.now ++ encode_lower digest) }
@@ -312,6 +332,9 @@ fn long_command(alloc: Global, text: &[u8]) -> Result<Command, TextFault>
     }
     if let Some(rest) = text.strip_prefix(b"import ".as_slice()) {
         return Ok(Command::ImportRevocations(import_of(alloc, rest)?));
+    }
+    if let Some(rest) = text.strip_prefix(b"explain ".as_slice()) {
+        return Ok(Command::Explain(explanation_of(alloc, rest)?));
     }
     Err(TextFault::Form)
 }

@@ -1,9 +1,11 @@
 //! The canonical texts of commands.
 ghost use Rattle.std.specs.Prelude.{◌≡◌, IfOk, string_bytes};
 ghost use Rattle.desk_texts.specs.CommandTexts.{text_of};
-ghost use Rattle.desk_texts.specs.declared.command.Command.TheVariants.{AddPerson, Submit, Review, Return, ListCertificate, Unlist, RaiseLevel, ImportRevocations};
+ghost use Rattle.desk_texts.specs.declared.command.Command.TheVariants.{AddPerson, Submit, Review, Return, ListCertificate, Unlist, RaiseLevel, ImportRevocations, Explain};
 
-use crate::command::{Ballot, Command, Listing, Person, Raise, ReturnedFile, Submission};
+use crate::command::{
+    Ballot, Command, Explanation, Listing, Person, Raise, ReturnedFile, Submission,
+};
 use crate::items::{components_text, digests_text, facts_text, stamp_text};
 use crate::{Certificate, Import};
 use std::alloc::{AllocError, Global};
@@ -67,6 +69,14 @@ fn raise(alloc: Global, raise: &Raise) -> Result<String, AllocError>
     format!(in alloc; "raise {name} {generation} {stamp}")
 }
 
+fn explain(alloc: Global, explanation: &Explanation) -> Result<String, AllocError>
+    ensures { IfOk result (λ text. string_bytes text ≡ text_of (Explain explanation.now)) }
+{
+    let proposal = explanation.proposal.value();
+    let reason = explanation.reason.as_str();
+    format!(in alloc; "explain {proposal} {reason}")
+}
+
 /// The canonical text of the command that imports this. Takes memory for the text; the time is
 /// linear in its length.
 pub fn import_text(alloc: Global, import: &Import) -> Result<String, AllocError>
@@ -109,5 +119,6 @@ pub fn command_text(alloc: Global, command: &Command) -> Result<String, AllocErr
             let proposal = proposal.value();
             format!(in alloc; "drop {proposal}")
         }
+        Command::Explain(explanation) => explain(alloc, explanation),
     }
 }

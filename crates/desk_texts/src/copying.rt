@@ -1,7 +1,7 @@
 //! Copies of commands and of their parts.
 ghost use Rattle.std.specs.Prelude.{◌≡◌};
 
-use crate::{Ballot, Call, Command, Person, Raise, Reply, ReturnedFile, Submission};
+use crate::{Ballot, Call, Command, Explanation, Person, Raise, Reply, ReturnedFile, Submission};
 use std::alloc::AllocError;
 
 impl Clone for Person {
@@ -64,6 +64,18 @@ impl Clone for Raise {
     }
 }
 
+impl Clone for Explanation {
+    ghost is_clone = { λ explanation copy. copy ≡ explanation };
+
+    fn clone(&self) -> Result<Explanation, AllocError> {
+        let reason = self.reason.clone()?;
+        Ok(Explanation {
+            proposal: self.proposal,
+            reason,
+        })
+    }
+}
+
 impl Clone for Command {
     ghost is_clone = { λ command copy. copy ≡ command };
 
@@ -85,6 +97,7 @@ impl Clone for Command {
             Command::ImportRevocations(import) => Ok(Command::ImportRevocations(import.clone()?)),
             Command::Confirm(proposal) => Ok(Command::Confirm(*proposal)),
             Command::Drop(proposal) => Ok(Command::Drop(*proposal)),
+            Command::Explain(explanation) => Ok(Command::Explain(explanation.clone()?)),
         }
     }
 }
@@ -122,6 +135,7 @@ impl Clone for Reply {
             Reply::Proposed(proposal) => Ok(Reply::Proposed(*proposal)),
             Reply::Confirmed(confirmation) => Ok(Reply::Confirmed(*confirmation)),
             Reply::Dropped(proposal) => Ok(Reply::Dropped(*proposal)),
+            Reply::Explained(proposal) => Ok(Reply::Explained(*proposal)),
         }
     }
 }

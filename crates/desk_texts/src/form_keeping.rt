@@ -140,6 +140,10 @@ pub fn command_is_formed(command: &Command)
         Command::Confirm(proposal) | Command::Drop(proposal) => {
             let _proposal = proposal.value();
         }
+        Command::Explain(explanation) => {
+            let _proposal = explanation.proposal.value();
+            let _reason = explanation.reason.as_str();
+        }
     }
 }
 
@@ -168,7 +172,7 @@ pub fn reply_is_formed(reply: &Reply)
         }
         Reply::Listed | Reply::Unlisted | Reply::Revoked | Reply::Raised => {}
         Reply::Imported(counts) => show_counts(*counts),
-        Reply::Proposed(proposal) | Reply::Dropped(proposal) => {
+        Reply::Proposed(proposal) | Reply::Dropped(proposal) | Reply::Explained(proposal) => {
             let _proposal = proposal.value();
         }
         Reply::Confirmed(confirmation) => {

@@ -20,6 +20,9 @@ const LONGEST_TITLE: usize = 120;
 /// The most bytes of a note.
 const LONGEST_NOTE: usize = 200;
 
+/// The most bytes of a reason.
+const LONGEST_REASON: usize = 200;
+
 /// The most digits of the number of a request or a proposal.
 const MOST_DIGITS: usize = 6;
 
@@ -86,6 +89,19 @@ pub(crate) fn is_note(text: &[u8]) -> bool
     ensures { result ≡ spec.is_note text.now }
 {
     if LONGEST_NOTE < text.len() {
+        return false;
+    }
+    are_between(text, 0x20, 0x7E)
+}
+
+/// True if the text is a reason.
+pub(crate) fn is_reason(text: &[u8]) -> bool
+    ensures { result ≡ spec.is_reason text.now }
+{
+    if text.is_empty() || LONGEST_REASON < text.len() {
+        return false;
+    }
+    if text[0] == b' ' || text[text.len() - 1] == b' ' {
         return false;
     }
     are_between(text, 0x20, 0x7E)

@@ -28,6 +28,7 @@ mod ordinal;
 mod person_name;
 mod proposal;
 mod proposal_number;
+mod reason;
 mod reply;
 mod reply_reading;
 mod reply_texts;
@@ -42,7 +43,9 @@ mod words;
 pub use caller::Caller;
 pub use carried::Carried;
 pub use certificate::{Certificate, LONGEST_CERTIFICATE};
-pub use command::{Ballot, Call, Command, Listing, Person, Raise, ReturnedFile, Submission};
+pub use command::{
+    Ballot, Call, Command, Explanation, Listing, Person, Raise, ReturnedFile, Submission,
+};
 pub use command_texts::{command_text, import_text};
 pub use digests::Digests;
 pub use facts::Facts;
@@ -58,6 +61,7 @@ pub use ordinal::GREATEST_NUMBER;
 pub use person_name::PersonName;
 pub use proposal::{ItemKind, Proposal, ProposalKind, ProposalOutcome, ProposalState};
 pub use proposal_number::ProposalNumber;
+pub use reason::Reason;
 pub use reply::{Confirmation, Counts, Outcome, Reply};
 pub use reply_texts::reply_text;
 pub use request_number::RequestNumber;

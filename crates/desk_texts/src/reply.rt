@@ -45,4 +45,5 @@ pub enum Reply {
     Proposed(ProposalNumber),
     Confirmed(Confirmation),
     Dropped(ProposalNumber),
+    Explained(ProposalNumber),
 }

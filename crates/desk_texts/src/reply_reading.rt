@@ -155,6 +155,9 @@ fn without_name(text: &[u8]) -> Option<Reply>
     if let Some(proposal) = number_behind(b"dropped ", text) {
         return Some(Reply::Dropped(ProposalNumber::of(proposal)));
     }
+    if let Some(proposal) = number_behind(b"explained ", text) {
+        return Some(Reply::Explained(ProposalNumber::of(proposal)));
+    }
     word_alone(text)
 }
 

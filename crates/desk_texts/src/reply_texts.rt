@@ -69,5 +69,6 @@ pub fn reply_text(alloc: Global, reply: &Reply) -> Result<String, AllocError>
         Reply::Proposed(proposal) => numbered_text(alloc, "proposed", proposal.value()),
         Reply::Confirmed(confirmation) => confirmed_text(alloc, *confirmation),
         Reply::Dropped(proposal) => numbered_text(alloc, "dropped", proposal.value()),
+        Reply::Explained(proposal) => numbered_text(alloc, "explained", proposal.value()),
     }
 }
