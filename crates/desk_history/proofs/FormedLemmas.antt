@@ -106,6 +106,7 @@ reply_formed cs i (command.RaiseLevel raise) f n h = proposed_formed cs i.rules 
 reply_formed cs i (command.ImportRevocations named) f n h = proposed_formed cs i.rules (replies.Imported (counted cs i)) h n
 reply_formed cs i (command.Confirm k) f n h = (f, n)
 reply_formed cs i (command.Drop k) f n h = f
+reply_formed cs i (command.Explain e) f n h = f.0
 
 minute_readable : (cs : History) (i : Item) → IsHistory (i ∷ cs) → IsReadable (minute_of cs i)
 minute_readable cs i h =

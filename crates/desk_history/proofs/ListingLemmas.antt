@@ -109,6 +109,7 @@ one_call kind cs digest h old (command.RaiseLevel _) = h
 one_call kind cs digest h old (command.ImportRevocations _) = h
 one_call kind cs digest h old (command.Confirm _) = h
 one_call kind cs digest h old (command.Drop _) = h
+one_call kind cs digest h old (command.Explain _) = h
 
 pub listed_rows_are_listed : ListsListed
 listed_rows_are_listed [] kind digest = refl
@@ -163,6 +164,7 @@ one_apart rows h (command.RaiseLevel _) = h
 one_apart rows h (command.ImportRevocations _) = h
 one_apart rows h (command.Confirm _) = h
 one_apart rows h (command.Drop _) = h
+one_apart rows h (command.Explain _) = h
 
 pub listed_apart : (cs : History) → apart (listed cs) ≡ true
 listed_apart [] = refl

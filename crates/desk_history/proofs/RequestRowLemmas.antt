@@ -165,6 +165,7 @@ one_request cs old (command.RaiseLevel _) w h = h
 one_request cs old (command.ImportRevocations _) w h = h
 one_request cs old (command.Confirm _) w h = h
 one_request cs old (command.Drop _) w h = h
+one_request cs old (command.Explain _) w h = h
 
 requests_apart : (cs : History) → All IsItem cs → All HasApart (requests cs)
 requests_apart [] h = All-nil HasApart

@@ -48,6 +48,7 @@ confirmed_by cs (command.RevokeCertificate _) = None
 confirmed_by cs (command.RaiseLevel _) = None
 confirmed_by cs (command.ImportRevocations _) = None
 confirmed_by cs (command.Drop _) = None
+confirmed_by cs (command.Explain _) = None
 
 -- own: by the first rules a call puts into force the entries that it names; by the second only a
 -- Confirm does, those of its proposal

@@ -32,6 +32,7 @@ image_of cs (command.RaiseLevel _) = None
 image_of cs (command.ImportRevocations _) = None
 image_of cs (command.Confirm _) = None
 image_of cs (command.Drop _) = None
+image_of cs (command.Explain _) = None
 
 -- the images of the accepted Submit and Return calls, the newest first
 abbrev pub images : History → List Image

@@ -30,6 +30,7 @@ is_about kind digest (command.RaiseLevel _) = false
 is_about kind digest (command.ImportRevocations _) = false
 is_about kind digest (command.Confirm _) = false
 is_about kind digest (command.Drop _) = false
+is_about kind digest (command.Explain _) = false
 
 -- the command lists an entry
 abbrev pub lists : Command → Bool
@@ -47,6 +48,7 @@ lists (command.RaiseLevel _) = false
 lists (command.ImportRevocations _) = false
 lists (command.Confirm _) = false
 lists (command.Drop _) = false
+lists (command.Explain _) = false
 
 -- the last call that lists the entry or takes it off lists it
 abbrev pub is_listed : ListedKind → History → List ℕ → Bool
@@ -78,6 +80,7 @@ relisted (command.RaiseLevel _) entries = entries
 relisted (command.ImportRevocations _) entries = entries
 relisted (command.Confirm _) entries = entries
 relisted (command.Drop _) entries = entries
+relisted (command.Explain _) entries = entries
 
 -- the listed entries, with the bodies that the last calls that list them gave
 abbrev pub listed : History → List Entry

@@ -21,6 +21,7 @@ added_by (command.RaiseLevel _) = None
 added_by (command.ImportRevocations _) = None
 added_by (command.Confirm _) = None
 added_by (command.Drop _) = None
+added_by (command.Explain _) = None
 
 -- those who were added, the newest first
 abbrev pub people : History → List Person

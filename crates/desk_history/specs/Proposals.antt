@@ -38,6 +38,7 @@ named_by (command.ListDigest _) = None
 named_by (command.Unlist _) = None
 named_by (command.Confirm _) = None
 named_by (command.Drop _) = None
+named_by (command.Explain _) = None
 
 -- ---- proposals
 
@@ -90,6 +91,7 @@ outcome_by (command.RevokeDigest _) = None
 outcome_by (command.RevokeCertificate _) = None
 outcome_by (command.RaiseLevel _) = None
 outcome_by (command.ImportRevocations _) = None
+outcome_by (command.Explain _) = None
 
 -- the outcomes of the closed proposals, the newest first
 abbrev pub outcomes : History → List ProposalOutcome

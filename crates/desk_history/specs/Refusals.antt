@@ -132,6 +132,7 @@ force_refusal cs (command.ListDigest _) = None
 force_refusal cs (command.Unlist _) = None
 force_refusal cs (command.Confirm _) = None
 force_refusal cs (command.Drop _) = None
+force_refusal cs (command.Explain _) = None
 
 -- a proposal in this state is closed
 abbrev pub is_closed : ProposalState → Bool
@@ -158,6 +159,12 @@ abbrev pub drop_refusal : Option Proposal → ProposalState → Option Refusal
 drop_refusal None state = Some refusals.NoSuchProposal
 drop_refusal (Some p) state = drop_by state
 
+-- Explain, of the proposal. own: any officer explains any proposal, in whatever state it is, as often
+-- as that officer likes
+abbrev pub explain_refusal : Option Proposal → Option Refusal
+explain_refusal None = Some refusals.NoSuchProposal
+explain_refusal (Some p) = None
+
 -- own: each command's own conditions, for the caller of this name
 abbrev pub own_refusal : History → List ℕ → Command → Option Refusal
 own_refusal cs name (command.AddPerson p) = add_refusal (people cs) p
@@ -177,6 +184,7 @@ own_refusal cs name (command.RaiseLevel r) = force_refusal cs (command.RaiseLeve
 own_refusal cs name (command.ImportRevocations i) = force_refusal cs (command.ImportRevocations i)
 own_refusal cs name (command.Confirm k) = confirm_refusal cs (proposal cs k) (proposal_state cs k) name
 own_refusal cs name (command.Drop k) = drop_refusal (proposal cs k) (proposal_state cs k)
+own_refusal cs name (command.Explain e) = explain_refusal (proposal cs e.proposal)
 
 -- own: the caller's role comes first, then the command's own conditions, and last the limits of a
 -- desk

@@ -57,6 +57,7 @@ reply_by cs i (command.RaiseLevel raise) = or_proposed cs i.rules replies.Raised
 reply_by cs i (command.ImportRevocations named) = or_proposed cs i.rules (replies.Imported (counted cs i))
 reply_by cs i (command.Confirm k) = replies.Confirmed (record { proposal = k; counts = counted cs i })
 reply_by cs i (command.Drop k) = replies.Dropped k
+reply_by cs i (command.Explain e) = replies.Explained e.proposal
 
 -- own: the reply to a call that is accepted after these
 abbrev pub reply_to : History → Item → Reply

@@ -45,6 +45,7 @@ submission_of (command.RaiseLevel _) = None
 submission_of (command.ImportRevocations _) = None
 submission_of (command.Confirm _) = None
 submission_of (command.Drop _) = None
+submission_of (command.Explain _) = None
 
 -- a submission and its submitter
 pub record Submitted : Type 0 where
@@ -91,6 +92,7 @@ vote_of reviewer (command.RaiseLevel _) = None
 vote_of reviewer (command.ImportRevocations _) = None
 vote_of reviewer (command.Confirm _) = None
 vote_of reviewer (command.Drop _) = None
+vote_of reviewer (command.Explain _) = None
 
 -- the Reviews
 abbrev pub votes : History → List VoteRow
@@ -124,6 +126,7 @@ withdraws k (command.RaiseLevel _) = false
 withdraws k (command.ImportRevocations _) = false
 withdraws k (command.Confirm _) = false
 withdraws k (command.Drop _) = false
+withdraws k (command.Explain _) = false
 
 -- some call withdraws the request
 abbrev pub is_withdrawn : History → ℕ → Bool
@@ -151,6 +154,7 @@ return_of signer (command.RaiseLevel _) = None
 return_of signer (command.ImportRevocations _) = None
 return_of signer (command.Confirm _) = None
 return_of signer (command.Drop _) = None
+return_of signer (command.Explain _) = None
 
 -- the Returns
 abbrev pub returns : History → List Returned

@@ -49,6 +49,7 @@ is_for r (command.RaiseLevel _) = is_officer r
 is_for r (command.ImportRevocations _) = is_officer r
 is_for r (command.Confirm _) = is_officer r
 is_for r (command.Drop _) = is_officer r
+is_for r (command.Explain _) = is_officer r
 
 -- own: the console gives AddPerson and no other command
 abbrev pub is_for_console : Command → Bool
@@ -66,3 +67,4 @@ is_for_console (command.RaiseLevel _) = false
 is_for_console (command.ImportRevocations _) = false
 is_for_console (command.Confirm _) = false
 is_for_console (command.Drop _) = false
+is_for_console (command.Explain _) = false

@@ -44,7 +44,8 @@ pub fn is_for(role: Role, command: &Command) -> bool
         | Command::RaiseLevel(_)
         | Command::ImportRevocations(_)
         | Command::Confirm(_)
-        | Command::Drop(_) => matches!(role, Role::Officer),
+        | Command::Drop(_)
+        | Command::Explain(_) => matches!(role, Role::Officer),
     }
 }
 
@@ -66,7 +67,8 @@ pub fn is_for_console(command: &Command) -> bool
         | Command::RaiseLevel(_)
         | Command::ImportRevocations(_)
         | Command::Confirm(_)
-        | Command::Drop(_) => false,
+        | Command::Drop(_)
+        | Command::Explain(_) => false,
     }
 }
 

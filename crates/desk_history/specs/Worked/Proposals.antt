@@ -115,16 +115,25 @@ RepeatsOne =
 abbrev pub revoke_bb : Command
 revoke_bb = command.RevokeDigest (digest 187)
 
--- one is confirmed, so the other can't be, and is dropped
+-- the reason for this proposal
+abbrev pub explain : ℕ → Command
+explain k = command.Explain (record { proposal = k; reason = codes "CVE-2026-1234" })
+
+-- one is confirmed, so the other can't be, and is dropped; officers explain both, also then
 abbrev pub both_steps : List Step
 both_steps = with_officers (
     accepted (olga (codes "olga-1") revoke_bb) (proposed 1)
     ∷ accepted (olga (codes "olga-2") revoke_bb) (proposed 2)
+    ∷ accepted (otto (codes "otto-0") (explain 2)) (replies.Explained 2)
     ∷ accepted (otto (codes "otto-1") (command.Confirm 1)) (confirmed 1 1 0 0 0)
     ∷ refused (otto (codes "otto-2") (command.Confirm 2)) refusals.AlreadyRevoked
     ∷ accepted (olga (codes "olga-3") (command.Drop 2)) (replies.Dropped 2)
     ∷ refused (otto (codes "otto-3") (command.Drop 2)) refusals.ProposalClosed
     ∷ refused (otto (codes "otto-4") (command.Drop 3)) refusals.NoSuchProposal
+    ∷ accepted (olga (codes "olga-4") (explain 1)) (replies.Explained 1)
+    ∷ accepted (olga (codes "olga-5") (explain 2)) (replies.Explained 2)
+    ∷ refused (ann (codes "ann-1") (explain 1)) refusals.NotYourRole
+    ∷ refused (otto (codes "otto-5") (explain 3)) refusals.NoSuchProposal
     ∷ [])
 
 -- each call has this answer
