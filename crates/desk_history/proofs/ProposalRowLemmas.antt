@@ -11,7 +11,6 @@ use Rattle.desk_texts.specs.declared.caller.Caller.{Caller}
 use Rattle.desk_texts.specs.declared.command.Call.{Call}
 use Rattle.desk_texts.specs.declared.command.Command.{Command}
 use Rattle.desk_texts.specs.declared.command.Command.TheVariants as command
-use Rattle.desk_texts.specs.declared.command.Explanation.{Explanation}
 use Rattle.desk_texts.specs.declared.kind.ListedKind.TheVariants as listed
 use Rattle.desk_texts.specs.declared.proposal.ProposalKind.{ProposalKind}
 use Rattle.desk_texts.specs.declared.proposal.ProposalKind.TheVariants as kinds
@@ -22,7 +21,7 @@ use Rattle.desk_history.specs.Forces.{forced}
 use Rattle.desk_history.specs.Impact.{another_refusal}
 use Rattle.desk_history.specs.Level.{is_sbat, is_above, level, raises_some, stamp}
 use Rattle.desk_history.specs.Proposals.{Named, Proposal, is_proposal, named_by, proposal, proposal_state, proposals}
-use Rattle.desk_history.specs.Refusals.{confirm_by, confirm_refusal, drop_by, drop_refusal, explain_refusal, force_refusal, import_refusal, is_later, own_refusal, refuse_if}
+use Rattle.desk_history.specs.Refusals.{confirm_by, confirm_refusal, drop_by, drop_refusal, force_refusal, import_refusal, is_later, own_refusal, refuse_if}
 use Rattle.desk_history.specs.Revocations.{is_revoked}
 use Rattle.desk_history.specs.Tables.{proposal_row, tables}
 use Rattle.desk_history.specs.Writes.{set_proposal_state}
@@ -158,8 +157,3 @@ pub row_dropped : (owner : List ℕ) (cs : History) (name : List ℕ) (k : ℕ) 
 row_dropped owner cs name k row h =
     let r = its_row owner cs k row h in
     ap (λ o. drop_refusal o (proposal_state cs k)) r.there ∙ ap (λ (q : ProposalRow). drop_by q.state) (sym r.is)
-
--- and no Explain of a proposal that is there is refused
-pub row_explained : (owner : List ℕ) (cs : History) (name : List ℕ) (e : Explanation) (row : ProposalRow) → find (is_proposal_row e.proposal) (tables owner cs).proposals ≡ Some row
-    → own_refusal cs name (command.Explain e) ≡ None
-row_explained owner cs name e row h = ap explain_refusal (its_row owner cs e.proposal row h).there

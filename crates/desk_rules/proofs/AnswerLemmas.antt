@@ -36,7 +36,7 @@ use Rattle.desk_history.specs.Runs.{repeated}
 use Rattle.desk_history.specs.Verdicts.{bars, lists_image}
 use Rattle.desk_rules.specs.declared.view.Changes.{Changes}
 use Rattle.desk_rules.specs.declared.view.View.{View}
-use Rattle.desk_rules.specs.DecisionSteps.{AppendsCallRow, Decided, Repeats, drop_refusal_in, force_refusal_in, outcome_after, return_refusal_in, returned_file_row, review_refusal_in, submission_writes, vote_row, withdraw_refusal_in}
+use Rattle.desk_rules.specs.DecisionSteps.{AppendsCallRow, Decided, Repeats, drop_refusal_in, explain_refusal_in, force_refusal_in, outcome_after, return_refusal_in, returned_file_row, review_refusal_in, submission_writes, vote_row, withdraw_refusal_in}
 use Rattle.desk_rules.specs.Shown.{is_proposal_row, is_request_row}
 use Rattle.desk_rules.specs.Views.{seen_standing}
 use Rattle.desk_rules.proofs.ForeseenRefusals.{force_foreseen, may_be_answered}
@@ -94,6 +94,10 @@ drop_only s r h = refuse_only (is_closed s) refusals.ProposalClosed r refl h
 dropped_only : (o : Option ProposalRow) (r : Refusal) → option_map_or (λ row. drop_by row.state) o (Some refusals.NoSuchProposal) ≡ Some r → may_answer r ≡ true
 dropped_only None r h = given refusals.NoSuchProposal r refl h
 dropped_only (Some row) r h = drop_only row.state r h
+
+explained_only : (o : Option ProposalRow) (r : Refusal) → option_map_or (λ row. None) o (Some refusals.NoSuchProposal) ≡ Some r → may_answer r ≡ true
+explained_only None r h = given refusals.NoSuchProposal r refl h
+explained_only (Some row) r h = none_some h
 
 early_parts : (closed own : Bool) (r : Refusal) → (if closed then Some refusals.ProposalClosed else (if own then Some refusals.OwnProposal else None)) ≡ Some r → may_answer r ≡ true
 early_parts true own r h = given refusals.ProposalClosed r refl h
@@ -168,6 +172,9 @@ module _ (v : View) (result : Result Changes Refusal) where
 
   pub drops_only : (k : ℕ) (reply : Reply) (ws : List Write) → Decided result (drop_refusal_in v k) reply ws → IfErr result (λ r. IsTrue (may_answer r))
   drops_only k reply ws told = decided_only result (drop_refusal_in v k) reply ws told (dropped_only (find (is_proposal_row k) v.proposals.items))
+
+  pub explains_only : (k : ℕ) (reply : Reply) (ws : List Write) → Decided result (explain_refusal_in v k) reply ws → IfErr result (λ r. IsTrue (may_answer r))
+  explains_only k reply ws told = decided_only result (explain_refusal_in v k) reply ws told (explained_only (find (is_proposal_row k) v.proposals.items))
 
 -- the refusal by the key's earlier call
 repeated_only : (m : Minute) (text : List ℕ) (r : Refusal) → repeated m text ≡ Refused r → may_answer r ≡ true

@@ -10,6 +10,7 @@ use Rattle.desk_texts.specs.Forms.{greatest_number}
 use Rattle.desk_texts.specs.declared.caller.Caller.{Caller}
 use Rattle.desk_texts.specs.declared.command.Command.{Command}
 use Rattle.desk_texts.specs.declared.command.Command.TheVariants as command
+use Rattle.desk_texts.specs.declared.command.Explanation.{Explanation}
 use Rattle.desk_texts.specs.declared.proposal.ProposalState.{ProposalState}
 use Rattle.desk_texts.specs.declared.proposal.ProposalState.TheVariants as states
 use Rattle.desk_texts.specs.declared.reply.Reply.TheVariants as replies
@@ -19,7 +20,7 @@ use Rattle.desk_history.specs.Calls.{History, item}
 use Rattle.desk_history.specs.Forces.{enforced_by}
 use Rattle.desk_history.specs.Impact.{another_refusal}
 use Rattle.desk_history.specs.Proposals.{Named, Proposal, named_by, proposal, proposal_state, proposals}
-use Rattle.desk_history.specs.Refusals.{confirm_by, confirm_refusal, drop_by, drop_refusal, force_refusal, own_refusal}
+use Rattle.desk_history.specs.Refusals.{confirm_by, confirm_refusal, drop_by, drop_refusal, explain_refusal, force_refusal, own_refusal}
 use Rattle.desk_history.specs.Replies.{minutes, reply}
 use Rattle.desk_history.specs.Runs.{is_legal}
 use Rattle.desk_history.specs.Tables.{proposal_row, tables}
@@ -31,7 +32,7 @@ use Rattle.desk_rules.specs.declared.decisions.imports.SoFar.{SoFar}
 use Rattle.desk_rules.specs.declared.view.Changes.{Changes}
 use Rattle.desk_rules.specs.declared.view.LimitedTable.TheVariants as counted
 use Rattle.desk_rules.specs.declared.view.View.{View}
-use Rattle.desk_rules.specs.DecisionSteps.{Decided, DecidesOwn, IsCommandStep, MatchesOwn, RefusesOwn, drop_refusal_in, force_refusal_in, open_row}
+use Rattle.desk_rules.specs.DecisionSteps.{Decided, DecidesOwn, IsCommandStep, MatchesOwn, RefusesOwn, drop_refusal_in, explain_refusal_in, force_refusal_in, open_row}
 use Rattle.desk_history.specs.Called.{called}
 use Rattle.desk_rules.specs.ImportSteps.{ConfirmsAnother, FailsNamed, HasTakenAll, IsConfirmed, PutsIntoForce, PutsNamed}
 use Rattle.desk_rules.specs.Keys.{import_keys, row_keys}
@@ -230,4 +231,19 @@ drops v caller k result told owner cs key legal shown =
     (ap (λ o. option_map_or (λ (row : ProposalRow). drop_by row.state) o (Some refusals.NoSuchProposal)) (shown.proposal k refl ∙ table_found owner cs k) ∙ drop_of (proposal cs k) (proposal_state cs k))
     (λ none. refl)
     (λ none. ap (λ rows. record (tables owner cs) { proposals = rows }) (drop_rows owner cs caller key k))
+    (inl refl)
+
+-- ---- an Explain
+
+explain_of : (o : Option Proposal) (s : ProposalState) → option_map_or (λ (row : ProposalRow). None) (option_map (proposal_row s) o) (Some refusals.NoSuchProposal) ≡ explain_refusal o
+explain_of None s = refl
+explain_of (Some p) s = refl
+
+pub explains : (v : View) (caller : Caller) (e : Explanation) (result : Result Changes Refusal) →
+    Decided result (explain_refusal_in v e.proposal) (replies.Explained e.proposal) [] → DecidesOwn v caller (command.Explain e) result
+explains v caller e result told owner cs key legal shown =
+    decided owner cs (called caller key (command.Explain e)) result (explain_refusal_in v e.proposal) (replies.Explained e.proposal) [] told
+    (ap (λ o. option_map_or (λ (row : ProposalRow). None) o (Some refusals.NoSuchProposal)) (shown.proposal e.proposal refl ∙ table_found owner cs e.proposal) ∙ explain_of (proposal cs e.proposal) (proposal_state cs e.proposal))
+    (λ none. refl)
+    (λ none. refl)
     (inl refl)

@@ -166,6 +166,10 @@ abbrev pub drop_refusal_in : View → ℕ → Option Refusal
 drop_refusal_in v k =
     option_map_or (λ row. drop_by row.state) (find (is_proposal_row k) v.proposals.items) (Some refusals.NoSuchProposal)
 
+-- why, by these rows, explaining the proposal k is refused
+abbrev pub explain_refusal_in : View → ℕ → Option Refusal
+explain_refusal_in v k = option_map_or (λ row. None) (find (is_proposal_row k) v.proposals.items) (Some refusals.NoSuchProposal)
+
 -- an open proposal as a row
 abbrev pub open_row : ℕ → List ℕ → ProposalKind → Imported → ProposalRow
 open_row number officer kind named =

@@ -25,6 +25,7 @@ people_named (command.RaiseLevel _) = []
 people_named (command.ImportRevocations _) = []
 people_named (command.Confirm _) = []
 people_named (command.Drop _) = []
+people_named (command.Explain _) = []
 
 -- the tokens of people that a command has
 abbrev pub tokens_named : Command → List (List ℕ)
@@ -42,6 +43,7 @@ tokens_named (command.RaiseLevel _) = []
 tokens_named (command.ImportRevocations _) = []
 tokens_named (command.Confirm _) = []
 tokens_named (command.Drop _) = []
+tokens_named (command.Explain _) = []
 
 -- the request that a command names
 abbrev pub request_named : Command → Option ℕ
@@ -59,11 +61,13 @@ request_named (command.RaiseLevel _) = None
 request_named (command.ImportRevocations _) = None
 request_named (command.Confirm _) = None
 request_named (command.Drop _) = None
+request_named (command.Explain _) = None
 
 -- the proposal that a command names
 abbrev pub proposal_named : Command → Option ℕ
 proposal_named (command.Confirm k) = Some k
 proposal_named (command.Drop k) = Some k
+proposal_named (command.Explain e) = Some e.proposal
 proposal_named (command.AddPerson _) = None
 proposal_named (command.Submit _) = None
 proposal_named (command.Review _) = None
@@ -109,6 +113,7 @@ keys_named (command.RaiseLevel r) = record no_keys { names = r.component.name �
 keys_named (command.ImportRevocations i) = import_keys i
 keys_named (command.Confirm _) = no_keys
 keys_named (command.Drop _) = no_keys
+keys_named (command.Explain _) = no_keys
 
 -- the keys of the entries of a proposal's row, if there is one
 abbrev pub row_keys : Option ProposalRow → Keys

@@ -61,6 +61,7 @@ may_put (command.ImportRevocations _) table = is_table counted.Proposals table
 may_put (command.Confirm _) table =
     is_table counted.RevokedDigests table || is_table counted.RevokedCertificates table || is_table counted.Components table
 may_put (command.Drop _) table = false
+may_put (command.Explain _) table = false
 
 -- the table's size among the sizes
 abbrev pub size_in : Sizes → LimitedTable → ℕ

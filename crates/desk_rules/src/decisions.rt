@@ -24,7 +24,8 @@ use lists::{list_certificate, list_digest, unlist};
 use people::add_person;
 pub(crate) use proposals::confirm_another;
 use proposals::{
-    confirm, drop_proposal, propose_certificate, propose_digest, propose_import, propose_level,
+    confirm, drop_proposal, explain_proposal, propose_certificate, propose_digest, propose_import,
+    propose_level,
 };
 use requests::{return_file, review, withdraw};
 use std::alloc::{AllocError, Global};
@@ -108,5 +109,6 @@ pub(crate) fn decide_own(
         Command::ImportRevocations(named) => propose_import(alloc, view, caller, named),
         Command::Confirm(number) => confirm(alloc, view, caller, *number),
         Command::Drop(number) => drop_proposal(alloc, view, *number),
+        Command::Explain(explanation) => explain_proposal(alloc, view, explanation.proposal),
     }
 }

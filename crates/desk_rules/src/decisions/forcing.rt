@@ -106,6 +106,7 @@ pub(crate) fn decide_own_first(
         | Command::ListDigest(_)
         | Command::Unlist(_)
         | Command::Confirm(_)
-        | Command::Drop(_) => decide_own(alloc, view, caller, command),
+        | Command::Drop(_)
+        | Command::Explain(_) => decide_own(alloc, view, caller, command),
     }
 }

@@ -119,6 +119,16 @@ impl View {
             Some(row) => drop_by(row.state),
         }
     }
+
+    /// The refusal to explain the proposal.
+    fn explain_refusal(&self, number: ProposalNumber) -> Option<Refusal>
+        ensures { result ≡ spec.explain_refusal_in self.now number }
+    {
+        match self.proposal(number) {
+            None => Some(Refusal::NoSuchProposal),
+            Some(_) => None,
+        }
+    }
 }
 
 /// Proposes the named entries as the proposal of this number. `names` is the count of names that
@@ -304,4 +314,22 @@ pub(crate) fn drop_proposal(
         Reply::Dropped(proposal),
         Write::ProposalState(ProposalOutcome { proposal, state }),
     )
+}
+
+/// Explains the proposal, which changes no row.
+pub(crate) fn explain_proposal(
+    alloc: Global,
+    view: &View,
+    proposal: ProposalNumber,
+) -> Result<Changes, Refusal>
+    ensures { spec.Decided result (spec.explain_refusal_in view.now proposal)
+        (replies.Explained proposal) [] }
+{
+    if let Some(refusal) = view.explain_refusal(proposal) {
+        return Err(refusal);
+    }
+    Ok(Changes {
+        reply: Reply::Explained(proposal),
+        writes: Vec::new(alloc),
+    })
 }

@@ -5,9 +5,9 @@ use Rattle.desk_texts.specs.declared.kind.ListedKind.TheVariants as kinds
 use Rattle.desk_texts.specs.declared.proposal.ProposalState.TheVariants as states
 use Rattle.desk_texts.specs.declared.reply.Reply.TheVariants as replies
 use Rattle.desk_history.specs.declared.write.Write.TheVariants as writes
-use Rattle.desk_rules.proofs.AnswerLemmas.{adds_only, drops_only, lists_only, returns_only, reviews_only, unlists_only, withdraws_only}
+use Rattle.desk_rules.proofs.AnswerLemmas.{adds_only, drops_only, explains_only, lists_only, returns_only, reviews_only, unlists_only, withdraws_only}
 use Rattle.desk_rules.proofs.DecisionLemmas.{adds, lists_certificate, lists_digest, unlists}
-use Rattle.desk_rules.proofs.ProposalDecisions.{drops}
+use Rattle.desk_rules.proofs.ProposalDecisions.{drops, explains}
 use Rattle.desk_rules.proofs.RequestDecisions.{returns_file, reviews, withdraws_request}
 use Rattle.desk_rules.proofs.decisions.decide_own.Goals as goal
 
@@ -76,3 +76,9 @@ returns-in-Drop-clause-exact c = subst (λ (command : Command). DecidesOwn c.arg
 
 pub returns-in-Drop-clause-only : goal.returns-in-Drop-clause-only
 returns-in-Drop-clause-only c = drops_only c.args.view.now c.drop_proposal.result c.in-Drop.number (replies.Dropped c.in-Drop.number) (writes.ProposalState (record { proposal = c.in-Drop.number; state = states.Dropped }) ∷ []) c.drop_proposal.ensures
+
+pub returns-in-Explain-clause-exact : goal.returns-in-Explain-clause-exact
+returns-in-Explain-clause-exact c = subst (λ (command : Command). DecidesOwn c.args.view.now c.args.caller.now command c.explain_proposal.result) (sym c.in-Explain.is) (explains c.args.view.now c.args.caller.now c.in-Explain.explanation c.explain_proposal.result c.explain_proposal.ensures)
+
+pub returns-in-Explain-clause-only : goal.returns-in-Explain-clause-only
+returns-in-Explain-clause-only c = explains_only c.args.view.now c.explain_proposal.result c.in-Explain.explanation.proposal (replies.Explained c.in-Explain.explanation.proposal) [] c.explain_proposal.ensures
