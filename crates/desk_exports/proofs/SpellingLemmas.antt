@@ -118,6 +118,7 @@ listed_fits (command.RaiseLevel _) w cs h = h
 listed_fits (command.ImportRevocations _) w cs h = h
 listed_fits (command.Confirm _) w cs h = h
 listed_fits (command.Drop _) w cs h = h
+listed_fits (command.Explain _) w cs h = h
 
 given_fit : (cs : History) → All IsItem cs → AllByRecursion HasFitBody (certificates_given cs)
 given_fit [] h = tt
@@ -194,6 +195,7 @@ relisted_right (command.RaiseLevel _) f w es h = h
 relisted_right (command.ImportRevocations _) f w es h = h
 relisted_right (command.Confirm _) f w es h = h
 relisted_right (command.Drop _) f w es h = h
+relisted_right (command.Explain _) f w es h = h
 
 listed_right : (cs : History) → All IsItem cs → AllByRecursion IsRight (listed cs)
 listed_right [] h = tt

@@ -22,6 +22,7 @@ certificate_listed (command.RaiseLevel _) = None
 certificate_listed (command.ImportRevocations _) = None
 certificate_listed (command.Confirm _) = None
 certificate_listed (command.Drop _) = None
+certificate_listed (command.Explain _) = None
 
 -- the certificates that calls gave, the newest first
 abbrev pub certificates_given : History → List WholeCertificate

@@ -41,7 +41,8 @@ fn certificate_of(command: Command) -> Option<Certificate>
         | Command::RaiseLevel(_)
         | Command::ImportRevocations(_)
         | Command::Confirm(_)
-        | Command::Drop(_) => None,
+        | Command::Drop(_)
+        | Command::Explain(_) => None,
     }
 }
 

@@ -24,6 +24,7 @@ passed_by (command.RaiseLevel _) = None
 passed_by (command.ImportRevocations _) = None
 passed_by (command.Confirm _) = None
 passed_by (command.Drop _) = None
+passed_by (command.Explain _) = None
 
 -- which file it is
 abbrev pub file_of : Passed → File

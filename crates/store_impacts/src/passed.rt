@@ -55,7 +55,8 @@ fn passed_by(command: Command) -> Option<Passed>
         | Command::RaiseLevel(_)
         | Command::ImportRevocations(_)
         | Command::Confirm(_)
-        | Command::Drop(_) => None,
+        | Command::Drop(_)
+        | Command::Explain(_) => None,
     }
 }
 

@@ -33,6 +33,7 @@ Changed (command.RaiseLevel _) before after = after ≡ before
 Changed (command.ImportRevocations _) before after = after ≡ before
 Changed (command.Confirm _) before after = after ≡ before
 Changed (command.Drop _) before after = after ≡ before
+Changed (command.Explain _) before after = after ≡ before
 
 -- an entry that isn't there leaves all of them
 without_none : (kind : ListedKind) (digest : List ℕ) (rows : List Entry) → has_entry kind digest rows ≡ false → length (without kind digest rows) ≡ length rows
@@ -86,3 +87,4 @@ module _ (owner : List ℕ) (cs : History) (legal : is_legal cs ≡ true) (name 
   listed_changes (command.ImportRevocations _) h = refl
   listed_changes (command.Confirm _) h = refl
   listed_changes (command.Drop _) h = refl
+  listed_changes (command.Explain _) h = refl

@@ -38,6 +38,7 @@ no_person (command.RaiseLevel _) e = (refl, refl)
 no_person (command.ImportRevocations _) e = (refl, refl)
 no_person (command.Confirm _) e = (refl, refl)
 no_person (command.Drop _) e = (refl, refl)
+no_person (command.Explain _) e = (refl, refl)
 
 one_person : (c : Command) (p : Person) → added_by c ≡ Some p → (people_named c ≡ p.name ∷ []) × (tokens_named c ≡ p.token ∷ [])
 one_person (command.AddPerson q) p e = let same : q ≡ p = cc in (ap (λ (x : Person). x.name ∷ []) same, ap (λ (x : Person). x.token ∷ []) same)
@@ -54,6 +55,7 @@ one_person (command.RaiseLevel _) p e = absurd cc
 one_person (command.ImportRevocations _) p e = absurd cc
 one_person (command.Confirm _) p e = absurd cc
 one_person (command.Drop _) p e = absurd cc
+one_person (command.Explain _) p e = absurd cc
 
 the_key : (name n : List ℕ) → IsTrue (bytes_eq name n || false) → n ≡ name
 the_key name n h = sym ((bytes_eq-Decides name n).0 (go (bytes_eq name n) h))

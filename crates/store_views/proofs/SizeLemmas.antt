@@ -75,6 +75,7 @@ listed_goes k (command.RaiseLevel _) rows later right changed small = same_goes 
 listed_goes k (command.ImportRevocations _) rows later right changed small = same_goes k rows later right changed
 listed_goes k (command.Confirm _) rows later right changed small = same_goes k rows later right changed
 listed_goes k (command.Drop _) rows later right changed small = same_goes k rows later right changed
+listed_goes k (command.Explain _) rows later right changed small = same_goes k rows later right changed
 
 module _ (owner : List ℕ) (cs : History) (i : Item) (ws : List Write) (k : KnownSizes) (legal : is_legal (i ∷ cs) ≡ true)
     (made : all_written ws (tables owner cs) ≡ but_migrated owner cs i) (right : AreRight k (tables owner cs)) where

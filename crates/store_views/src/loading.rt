@@ -51,7 +51,8 @@ fn person_added(command: &Command) -> Option<&Person>
         | Command::RaiseLevel(_)
         | Command::ImportRevocations(_)
         | Command::Confirm(_)
-        | Command::Drop(_) => None,
+        | Command::Drop(_)
+        | Command::Explain(_) => None,
     }
 }
 
@@ -73,7 +74,8 @@ fn request_of(command: &Command) -> Option<RequestNumber>
         | Command::RaiseLevel(_)
         | Command::ImportRevocations(_)
         | Command::Confirm(_)
-        | Command::Drop(_) => None,
+        | Command::Drop(_)
+        | Command::Explain(_) => None,
     }
 }
 
@@ -83,6 +85,7 @@ fn proposal_of(command: &Command) -> Option<ProposalNumber>
 {
     match command {
         Command::Confirm(number) | Command::Drop(number) => Some(*number),
+        Command::Explain(explanation) => Some(explanation.proposal),
         Command::AddPerson(_)
         | Command::Submit(_)
         | Command::Review(_)

@@ -33,6 +33,7 @@ listed_after size (command.RaiseLevel _) = size
 listed_after size (command.ImportRevocations _) = size
 listed_after size (command.Confirm _) = size
 listed_after size (command.Drop _) = size
+listed_after size (command.Explain _) = size
 
 -- the sizes after a command and its writes
 abbrev pub sizes_after : KnownSizes → Command → List Write → KnownSizes

@@ -35,9 +35,11 @@ pub(crate) fn lists_asked<S: Alter>(
     ensures survives { Spares S.Store tx.old.conn.now tx.new.conn.now }
 {
     match command {
-        Command::AddPerson(_) | Command::Review(_) | Command::Withdraw(_) | Command::Drop(_) => {
-            rows_of(alloc, tx, Digests::none(), Digests::none(), &[])
-        }
+        Command::AddPerson(_)
+        | Command::Review(_)
+        | Command::Withdraw(_)
+        | Command::Drop(_)
+        | Command::Explain(_) => { rows_of(alloc, tx, Digests::none(), Digests::none(), &[]) }
         Command::Submit(submission) => submission_view(alloc, tx, &submission.facts),
         Command::Return(returned) => list_view(alloc, tx, &returned.facts),
         Command::ListCertificate(certificate) => {

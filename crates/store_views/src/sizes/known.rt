@@ -52,7 +52,8 @@ fn listed_after(size: Option<u64>, command: &Command) -> Option<u64>
         | Command::RaiseLevel(_)
         | Command::ImportRevocations(_)
         | Command::Confirm(_)
-        | Command::Drop(_) => size,
+        | Command::Drop(_)
+        | Command::Explain(_) => size,
     }
 }
 

@@ -27,6 +27,7 @@ pub fn may_put(command: &Command, table: LimitedTable) -> bool
         | Command::Withdraw(_)
         | Command::Return(_)
         | Command::Unlist(_)
-        | Command::Drop(_) => false,
+        | Command::Drop(_)
+        | Command::Explain(_) => false,
     }
 }
