@@ -32,7 +32,7 @@ module _ (cs : History) (name : List ℕ) where
       ap (λ (r : Role). filter (λ (w : Whole). sees r (bytes_eq p.name w.request.submitter)) (wholes cs)) is
       ∙ ap (λ (n : List ℕ). filter (λ (w : Whole). bytes_eq n w.request.submitter) (wholes cs)) (sym same)
 
-  shown_own : role_of cs name ≡ Some roles.Submitter → shown_to cs (callers.Person name) ≡ Ok (own cs name)
+  pub shown_own : role_of cs name ≡ Some roles.Submitter → shown_to cs (callers.Person name) ≡ Ok (own cs name)
   shown_own is = elim (person cs name) as (λ o. person cs name ≡ o → option_map (λ (p : Person). p.role) o ≡ Some roles.Submitter → shown_by (ok_or o refusals.UnknownCaller) ≡ Ok (own cs name)) [
     | Some p ↦ λ found h.
         let role : p.role ≡ roles.Submitter = cc in
