@@ -29,7 +29,7 @@ fn needs_second(reply: &Reply) -> bool
 {
     matches!(
         reply,
-        Reply::Proposed(_) | Reply::Confirmed(_) | Reply::Dropped(_) | Reply::Explained(_)
+        Reply::Proposed(_) | Reply::Confirmed(_) | Reply::Dropped(_)
     )
 }
 

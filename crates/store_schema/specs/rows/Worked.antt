@@ -20,10 +20,11 @@ certificate = 0x30 ∷ 0x03 ∷ 0x02 ∷ 0x01 ∷ 0x01 ∷ []
 
 -- after the people were added an image is submitted, approved and signed; an image and a
 -- certificate are listed; the first officer proposes to revoke others and to raise the level, and
--- the second confirms two proposals and drops one: the newest call first
+-- the second confirms two proposals and drops one, which the first explains: the newest call first
 abbrev pub history : History
 history =
-    item (by (codes "otto") (codes "otto-3") (command.Confirm 3))
+    item (by (codes "olga") (codes "olga-6") (command.Explain (record { proposal = 2; reason = codes "CVE-2026-1234" })))
+    ∷ item (by (codes "otto") (codes "otto-3") (command.Confirm 3))
     ∷ item (by (codes "otto") (codes "otto-2") (command.Drop 2))
     ∷ item (by (codes "otto") (codes "otto-1") (command.Confirm 1))
     ∷ item (by (codes "olga") (codes "olga-5") (raise (codes "grub") 4 2024010100))
@@ -53,7 +54,8 @@ call number caller key text reply = Int (pos number) ∷ Null ∷ Text caller �
 -- the minutes, the newest first
 abbrev calls : List Row
 calls =
-    call 19 (codes "otto") (codes "otto-3") (codes "confirm 3") (codes "confirmed 3 0 0 1 0")
+    call 20 (codes "olga") (codes "olga-6") (codes "explain 2 CVE-2026-1234") (codes "explained 2")
+    ∷ call 19 (codes "otto") (codes "otto-3") (codes "confirm 3") (codes "confirmed 3 0 0 1 0")
     ∷ call 18 (codes "otto") (codes "otto-2") (codes "drop 2") (codes "dropped 2")
     ∷ call 17 (codes "otto") (codes "otto-1") (codes "confirm 1") (codes "confirmed 1 1 0 0 0")
     ∷ call 16 (codes "olga") (codes "olga-5") (codes "raise grub 4 2024010100") (codes "proposed 3")
