@@ -1,5 +1,5 @@
 -- One proposal, as it is shown and as it stays.
-use Rattle.std.proofs.Common.{◌≡◌, ℕ, ◌+◌, ◌<◌, true, false, [], ◌∷◌, ◌++◌, length, Option, Some, None, refl, sym, ◌∙◌, ap, arith}
+use Rattle.std.proofs.Common.{◌≡◌, ℕ, ◌+◌, ◌<◌, true, false, [], ◌∷◌, ◌++◌, length, Option, Some, None, refl, sym, ◌∙◌, ap, subst, arith}
 use Rattle.std.specs.Prelude.{◌==◌, if◌then◌else◌, find, is_some, option_map}
 use Rattle.std.specs.List.{cons_option}
 use Rattle.std.specs.Option.{option_map_or}
@@ -9,10 +9,12 @@ use Rattle.desk_texts.specs.declared.command.Command.{Command}
 use Rattle.desk_texts.specs.declared.command.Command.TheVariants as command
 use Rattle.desk_texts.specs.declared.proposal.ProposalOutcome.{ProposalOutcome}
 use Rattle.desk_texts.specs.declared.proposal.ProposalState.TheVariants as states
-use Rattle.desk_history.specs.Calls.{First, History, Rules, Second, under}
+use Rattle.desk_history.specs.Calls.{First, History, Rules, Second, item, under}
+use Rattle.desk_history.specs.ProposalLaws.{ExplainsAlone}
 use Rattle.desk_history.specs.ProposalShown.{ProposalsStay, ShownAsProposed}
 use Rattle.desk_history.specs.Proposals.{Named, Proposal, is_proposal, named_by, outcome_by, outcomes, proposal, proposal_state, proposals, proposed_by, with_next}
-use Rattle.desk_history.specs.Tables.{proposal_row}
+use Rattle.desk_history.specs.Replies.{minute, minutes}
+use Rattle.desk_history.specs.Tables.{proposal_row, tables}
 use Rattle.desk_history.proofs.ClosingLemmas.{clash, missing, next_is_open, no_some}
 use Rattle.desk_history.proofs.ListLemmas.{number_is, number_itself}
 use Rattle.desk_history.proofs.RunLemmas.{newest}
@@ -58,3 +60,7 @@ stays cs (i ∷ new) k some =
 
 pub proposals_stay : ProposalsStay
 proposals_stay earlier later k more some = ap (λ (l : History). proposal l k) more.1 ∙ stays earlier more.0 k some
+
+pub explains_alone : ExplainsAlone
+explains_alone owner cs c e is =
+    subst (λ (g : Command). tables owner (item (record c { command = g }) ∷ cs) ≡ record (tables owner cs) { calls = minute cs (record c { command = g }) ∷ minutes cs }) (sym is) refl

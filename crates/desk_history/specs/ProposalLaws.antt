@@ -1,16 +1,20 @@
 -- Laws of proposals.
-use Rattle.std.specs.Prelude.{◌≡◌, ◌⊎◌, ◌+◌, ◌==◌, false, not, ◌&&◌, IsTrue, ◌++◌, ◌∷◌, length, bytes_eq, Some, is_some, option_map}
+use Rattle.std.specs.Prelude.{◌≡◌, ◌⊎◌, ℕ, ◌+◌, ◌==◌, false, not, ◌&&◌, IsTrue, List, ◌++◌, ◌∷◌, length, bytes_eq, Some, is_some, option_map}
 use Rattle.std.specs.List.{list_all}
 use Rattle.desk_texts.specs.Callers.{caller_name}
 use Rattle.desk_texts.specs.Imports.{Imported}
+use Rattle.desk_texts.specs.declared.command.Call.{Call}
 use Rattle.desk_texts.specs.declared.command.Command.TheVariants as command
+use Rattle.desk_texts.specs.declared.command.Explanation.{Explanation}
 use Rattle.desk_texts.specs.declared.proposal.ProposalOutcome.{ProposalOutcome}
 use Rattle.desk_texts.specs.declared.proposal.ProposalState.TheVariants as states
-use Rattle.desk_history.specs.Calls.{First, History, Item, Second, are_apart, is_first}
+use Rattle.desk_history.specs.Calls.{First, History, Item, Second, are_apart, is_first, item}
 use Rattle.desk_history.specs.Forces.{enforced_by}
 use Rattle.desk_history.specs.Proposals.{named_by, outcome_by, outcomes, proposal_state, proposals}
 use Rattle.desk_history.specs.Refusals.{may_give}
+use Rattle.desk_history.specs.Replies.{minute, minutes}
 use Rattle.desk_history.specs.Runs.{is_legal}
+use Rattle.desk_history.specs.Tables.{tables}
 
 -- the call names these entries, to be revoked or raised
 abbrev pub Names : Item → Imported → Type 0
@@ -53,3 +57,9 @@ ClosedOnce =
 -- no call closes a proposal before it is made
 abbrev pub NextIsOpen : Type 0
 NextIsOpen = (cs : History) → IsTrue (is_legal cs) → proposal_state cs (length (proposals cs) + 1) ≡ states.Open
+
+-- an Explain changes no row: its minute joins the calls, and every other table stays
+abbrev pub ExplainsAlone : Type 0
+ExplainsAlone =
+    (owner : List ℕ) (cs : History) (c : Call) (e : Explanation) → c.command ≡ command.Explain e
+    → tables owner (item c ∷ cs) ≡ record (tables owner cs) { calls = minute cs c ∷ minutes cs }

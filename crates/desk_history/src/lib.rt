@@ -43,8 +43,8 @@ pub use limits::{
     MOST_REVOKED_CERTIFICATES, MOST_REVOKED_DIGESTS,
 };
 pub use proposal_laws::{
-    first_rules_close_none, next_proposal_is_open, proposals_are_shown, proposals_close_once,
-    proposals_stay, two_officers_put_into_force,
+    explanations_change_no_row, first_rules_close_none, next_proposal_is_open, proposals_are_shown,
+    proposals_close_once, proposals_stay, two_officers_put_into_force,
 };
 pub use rows::{
     CommandText, Entry, EntryBody, Minute, ProposalItem, ProposalItemRow, ProposalRow,

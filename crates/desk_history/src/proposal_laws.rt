@@ -32,3 +32,8 @@ pub fn proposals_are_shown()
 pub fn proposals_stay()
     ensures { shown.ProposalsStay }
 {}
+
+/// An Explain changes no row of a table: its minute joins the calls.
+pub fn explanations_change_no_row()
+    ensures { law.ExplainsAlone }
+{}
