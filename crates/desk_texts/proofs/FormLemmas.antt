@@ -1,10 +1,10 @@
 -- Bytes of names, keys, titles, notes and reasons.
-use Rattle.std.proofs.Common.{◌≡◌, ℕ, zero, suc, leb, Bool, true, false, ◌&&◌, ◌-◌, List, [], ◌∷◌, length, get_or, refl, arith}
+use Rattle.std.proofs.Common.{◌≡◌, ℕ, zero, suc, leb, Bool, true, false, ◌&&◌, List, [], ◌∷◌, length, get_or, refl, arith}
 use Rattle.std.specs.Char.{is_ascii_lowercase}
 use Rattle.std.specs.List.{list_all}
 use Rattle.std.specs.Str.{IsAscii}
 use Rattle.std.proofs.lemmas.Bool.Decides.{nat_tests}
-use Rattle.desk_texts.specs.Forms.{is_between, is_name_byte, is_person_name, is_key, is_title, is_note, is_reason, is_space}
+use Rattle.desk_texts.specs.Forms.{is_between, is_name_byte, is_person_name, is_key, is_title, is_note, is_reason}
 
 pub both : (a b : Bool) → (a && b) ≡ true → (a ≡ true) × (b ≡ true)
 both true b h = (refl, h)
