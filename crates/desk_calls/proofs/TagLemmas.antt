@@ -19,7 +19,7 @@ use Rattle.desk_history.specs.Calls.{GoesOnFrom, History}
 use Rattle.desk_history.specs.People.{added_by, has_name, has_token, people, person}
 use Rattle.desk_history.specs.Proposals.{Proposal as Proposed, proposal, proposal_state}
 use Rattle.desk_history.specs.ProposalShown.{shown_to_officer}
-use Rattle.desk_history.specs.Refusals.{confirm_refusal, drop_refusal, may_give, own_refusal, return_refusal, review_refusal, withdraw_by, withdraw_refusal}
+use Rattle.desk_history.specs.Refusals.{confirm_refusal, drop_refusal, explain_refusal, may_give, own_refusal, return_refusal, review_refusal, withdraw_by, withdraw_refusal}
 use Rattle.desk_history.specs.Requests.{Request as Requested, request, state, votes, votes_on}
 use Rattle.desk_history.specs.Roles.{asks, is_officer, is_reviewer, is_signer}
 use Rattle.desk_history.specs.Runs.{is_legal}
@@ -276,6 +276,10 @@ drops : (q : Option Proposed) (state : ProposalState) → drop_refusal q state �
 drops None state h = no_refusal h
 drops (Some q) state h = refl
 
+explains : (q : Option Proposed) → explain_refusal q ≡ None → is_some q ≡ true
+explains None h = no_refusal h
+explains (Some q) h = refl
+
 module _ (cs : History) (name : List ℕ) where
   named : (p : Person) → person cs name ≡ Some p → name ≡ p.name
   named p is = same_text name p.name (found_passes (has_name name) (people cs) p is)
@@ -295,6 +299,8 @@ module _ (cs : History) (name : List ℕ) where
       shown_as s (Proposal k) e (officer_sees (person cs name) (proposal cs k) may (confirms cs (proposal cs k) (proposal_state cs k) name own))
   shown_to_giver (command.Drop k) s e may own =
       shown_as s (Proposal k) e (officer_sees (person cs name) (proposal cs k) may (drops (proposal cs k) (proposal_state cs k) own))
+  shown_to_giver (command.Explain x) s e may own =
+      shown_as s (Proposal x.proposal) e (officer_sees (person cs name) (proposal cs x.proposal) may (explains (proposal cs x.proposal) own))
   shown_to_giver _ s e may own = no_some s e
 
   -- the caller of a command that isn't refused is shown what it is about

@@ -28,13 +28,14 @@ use Rattle.desk_calls.specs.declared.call.Task.TheVariants as task
 use Rattle.desk_calls.specs.declared.subject.Subject.{Subject}
 use Rattle.desk_calls.specs.declared.subject.Subject.TheVariants as subject
 
--- the request or the proposal that a command names: five commands name one
+-- the request or the proposal that a command names: six commands name one
 abbrev pub named_by : Command → Option Subject
 named_by (command.Review b) = Some (subject.Request b.request)
 named_by (command.Withdraw k) = Some (subject.Request k)
 named_by (command.Return h) = Some (subject.Request h.request)
 named_by (command.Confirm k) = Some (subject.Proposal k)
 named_by (command.Drop k) = Some (subject.Proposal k)
+named_by (command.Explain x) = Some (subject.Proposal x.proposal)
 named_by (command.AddPerson _) = None
 named_by (command.Submit _) = None
 named_by (command.ListCertificate _) = None

@@ -24,6 +24,7 @@ fn named_by(command: &Command) -> Option<Subject>
         Command::Withdraw(request) => Some(Subject::Request(*request)),
         Command::Return(file) => Some(Subject::Request(file.request)),
         Command::Confirm(proposal) | Command::Drop(proposal) => Some(Subject::Proposal(*proposal)),
+        Command::Explain(explanation) => Some(Subject::Proposal(explanation.proposal)),
         Command::AddPerson(_)
         | Command::Submit(_)
         | Command::ListCertificate(_)

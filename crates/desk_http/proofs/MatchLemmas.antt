@@ -6,17 +6,19 @@ use Rattle.desk_history.specs.Calls.{History}
 use Rattle.desk_texts.specs.declared.command.Ballot.{Ballot}
 use Rattle.desk_texts.specs.declared.command.Command as texts
 use Rattle.desk_texts.specs.declared.command.Command.TheVariants as given
+use Rattle.desk_texts.specs.declared.command.Explanation.{Explanation}
 use Rattle.desk_texts.specs.declared.command.Person.{Person}
 use Rattle.desk_texts.specs.declared.vote.Vote.{Vote}
 use Rattle.http_requests.specs.Asked.{image_at, key_in, keyed, keyed_at, number_in, numbered, of_proposal, with_image as keyed_image}
 use Rattle.http_requests.specs.Tags.{tag_at}
 use Rattle.http_requests.specs.Wanted.{Want}
-use Rattle.http_requests.specs.bodies.Bodies.{data_of, review_by, review_from, review_in, review_of}
-use Rattle.http_requests.specs.bodies.Forms.{note_in, vote_in}
-use Rattle.http_requests.specs.bodies.Members.{two_of}
+use Rattle.http_requests.specs.bodies.Bodies.{data_of, explanation_by, explanation_in, explanation_of, review_by, review_from, review_in, review_of}
+use Rattle.http_requests.specs.bodies.Forms.{note_in, reason_in, vote_in}
+use Rattle.http_requests.specs.bodies.Members.{one_of, two_of}
 use Rattle.http_requests.specs.declared.ask.CommandAsked.TheVariants.{Whole, Json}
 use Rattle.http_requests.specs.declared.ask.ImageAsked.{ImageAsked}
 use Rattle.http_requests.specs.declared.ask.ImageAsked.TheVariants as asked
+use Rattle.http_requests.specs.declared.ask.JsonAsked.{JsonAsked}
 use Rattle.http_requests.specs.declared.ask.JsonAsked.TheVariants as json
 use Rattle.http_requests.specs.declared.ask.KeyedAsked.{KeyedAsked}
 use Rattle.http_requests.specs.declared.fault.AskedFault.{AskedFault}
@@ -39,7 +41,7 @@ use Rattle.desk_http.specs.Asked.{Asks, Due, caller_of, called_by, of_caller, of
 use Rattle.desk_http.specs.Bodies.{body_in}
 use Rattle.desk_http.specs.Matching.{HasTag, IsAboutTag, MatchedInputsAreAboutTheirTag, numbered_by, subject_at}
 use Rattle.desk_http.specs.Serving.{AnswersDue}
-use Rattle.desk_http.specs.Tasks.{task_of}
+use Rattle.desk_http.specs.Tasks.{command_in, task_of}
 use Rattle.desk_http.proofs.InputLemmas.{heads_ask_alike}
 
 no_ok : {A : Type 0} (r : Refused) (call : Call) → Err r ≡ Ok call → A
@@ -102,21 +104,53 @@ reviewed k body b e = by (data_of body) e
     by None f = none_some b f
     by (Some d) f = values (two_of (codes "note") (codes "vote") d) f
 
-review_task : (key : List ℕ) (k : ℕ) (body : List ℕ) (t : Task) → task_of key (Json (json.Review k)) body ≡ Some t → subject_of t ≡ Some (subject.Request k)
-review_task key k body t e = by (review_of k body) refl e
+-- an explanation is of its proposal
+explained : (k : ℕ) (body : List ℕ) (x : Explanation) → explanation_of k body ≡ Some x → x.proposal ≡ k
+explained k body x e = by (data_of body) e
   where
-    by : (o : Option Ballot) → review_of k body ≡ o
-        → option_map (λ said. task.Command key said) (option_map (λ b. given.Review b) o) ≡ Some t → subject_of t ≡ Some (subject.Request k)
-    by None is f = none_some t f
-    by (Some b) is f =
-        ap subject_of (sym (same_some (task.Command key (given.Review b)) t f)) ∙ ap (λ n. Some (subject.Request n)) (reviewed k body b is)
+    parts : (reason : Option (List ℕ)) → explanation_by k reason ≡ Some x → x.proposal ≡ k
+    parts (Some reason) f = ap (λ (y : Explanation). y.proposal) (sym (same_some (record { proposal = k; reason = reason }) x f))
+    parts None f = none_some x f
+
+    by : (d : Option Data) → option_and_then (explanation_in k) d ≡ Some x → x.proposal ≡ k
+    by None f = none_some x f
+    by (Some d) f = parts (option_and_then reason_in (one_of (codes "text") d)) f
+
+-- a command with a JSON body, which says the rest of it
+module _ {X : Type 0} (ask : ℕ → JsonAsked) (said : ℕ → List ℕ → Option X) (makes : X → texts.Command) (about : ℕ → Subject)
+    (says : (k : ℕ) (body : List ℕ) → command_in (ask k) body ≡ option_map makes (said k body))
+    (names : (k : ℕ) (body : List ℕ) (x : X) → said k body ≡ Some x → named_by (makes x) ≡ Some (about k)) where
+  json_task : (key : List ℕ) (k : ℕ) (body : List ℕ) (t : Task) → task_of key (Json (ask k)) body ≡ Some t → subject_of t ≡ Some (about k)
+  json_task key k body t e = by (said k body) refl (sym (ap (option_map (λ given. task.Command key given)) (says k body)) ∙ e)
+    where
+      by : (o : Option X) → said k body ≡ o → option_map (λ given. task.Command key given) (option_map makes o) ≡ Some t → subject_of t ≡ Some (about k)
+      by None is f = none_some t f
+      by (Some x) is f = ap subject_of (sym (same_some (task.Command key (makes x)) t f)) ∙ names k body x is
+
+  keyed_task : (key : List ℕ) (k : ℕ) (x : KeyedAsked) (body : List ℕ) (t : Task)
+      → asks (record { key = key; asked = Json (ask k) }) ≡ Ok x → task_of x.key x.asked body ≡ Some t → subject_of t ≡ Some (about k)
+  keyed_task key k x body t e f =
+      json_task key k body t (subst (λ (y : KeyedAsked). task_of y.key y.asked body ≡ Some t) (sym (same_ok (record { key = key; asked = Json (ask k) }) x e)) f)
+
+  says_of_a_request : (key : Option (List ℕ)) (number : Option ℕ) (x : KeyedAsked) (body : List ℕ) (t : Task)
+      → keyed key (numbered number (λ n. Json (ask n))) ≡ Ok x → task_of x.key x.asked body ≡ Some t → IsOf about number t
+  says_of_a_request None number x body t e f = no_fault _ x e
+  says_of_a_request (Some key) None x body t e f = no_fault NoSuchRequest x e
+  says_of_a_request (Some key) (Some k) x body t e f = (k, refl, keyed_task key k x body t e f)
+
+  says_of_a_proposal : (key : Option (List ℕ)) (number : Option ℕ) (x : KeyedAsked) (body : List ℕ) (t : Task)
+      → keyed key (of_proposal number (λ n. Json (ask n))) ≡ Ok x → task_of x.key x.asked body ≡ Some t → IsOf about number t
+  says_of_a_proposal None number x body t e f = no_fault _ x e
+  says_of_a_proposal (Some key) None x body t e f = no_fault NoSuchProposal x e
+  says_of_a_proposal (Some key) (Some k) x body t e f = (k, refl, keyed_task key k x body t e f)
 
 reviews : (key : Option (List ℕ)) (number : Option ℕ) (x : KeyedAsked) (body : List ℕ) (t : Task)
     → keyed key (numbered number (λ n. Json (json.Review n))) ≡ Ok x → task_of x.key x.asked body ≡ Some t → IsOf subject.Request number t
-reviews None number x body t e f = no_fault _ x e
-reviews (Some key) None x body t e f = no_fault NoSuchRequest x e
-reviews (Some key) (Some k) x body t e f =
-    (k, refl, review_task key k body t (subst (λ (y : KeyedAsked). task_of y.key y.asked body ≡ Some t) (sym (same_ok (record { key = key; asked = Json (json.Review k) }) x e)) f))
+reviews = says_of_a_request json.Review review_of given.Review subject.Request (λ k body. refl) (λ k body b is. ap (λ n. Some (subject.Request n)) (reviewed k body b is))
+
+explains : (key : Option (List ℕ)) (number : Option ℕ) (x : KeyedAsked) (body : List ℕ) (t : Task)
+    → keyed key (of_proposal number (λ n. Json (json.Explain n))) ≡ Ok x → task_of x.key x.asked body ≡ Some t → IsOf subject.Proposal number t
+explains = says_of_a_proposal json.Explain explanation_of given.Explain subject.Proposal (λ k body. refl) (λ k body x is. ap (λ n. Some (subject.Proposal n)) (explained k body x is))
 
 -- a command without a body
 module _ (makes : ℕ → texts.Command) (about : ℕ → Subject) (names : (k : ℕ) → named_by (makes k) ≡ Some (about k)) where
@@ -217,6 +251,8 @@ module _ (p : Person) (w : Want) (rest : List ℕ) (t : List ℕ) (call : Call) 
   posted (Command command.Drop) tag e =
       from_command (Command command.Drop) subject.Proposal (keyed_at command.Drop w) (λ k. refl)
       (of_a_proposal given.Drop subject.Proposal (λ k. refl) (key_in w) (number_in w)) tag e
+  posted (Command command.Explain) tag e =
+      from_command (Command command.Explain) subject.Proposal (keyed_at command.Explain w) (λ k. refl) (explains (key_in w) (number_in w)) tag e
 
 -- ---- inputs
 

@@ -37,6 +37,7 @@ numbered_by (Command command.ImportCsv) k = None
 numbered_by (Command command.ImportLevel) k = None
 numbered_by (Command command.Confirm) k = Some (subject.Proposal k)
 numbered_by (Command command.Drop) k = Some (subject.Proposal k)
+numbered_by (Command command.Explain) k = Some (subject.Proposal k)
 
 -- what a request is about, by its target
 abbrev pub subject_at : PostRoute → Want → Option Subject

@@ -2,7 +2,7 @@
 use Rattle.std.specs.Prelude.{ℕ, List, Option, Some, option_map}
 use Rattle.desk_texts.specs.declared.command.Command.{Command}
 use Rattle.desk_texts.specs.declared.command.Command.TheVariants as command
-use Rattle.http_requests.specs.bodies.Bodies.{review_of, named_digest, unlist_of, level_of}
+use Rattle.http_requests.specs.bodies.Bodies.{review_of, named_digest, unlist_of, level_of, explanation_of}
 use Rattle.http_requests.specs.declared.ask.CommandAsked.{CommandAsked}
 use Rattle.http_requests.specs.declared.ask.CommandAsked.TheVariants.{Whole, Json, Bytes}
 use Rattle.http_requests.specs.declared.ask.JsonAsked.{JsonAsked}
@@ -18,6 +18,7 @@ command_in json.Unlist body = option_map (λ entry. command.Unlist entry) (unlis
 command_in json.RevokeDigest body = option_map (λ digest. command.RevokeDigest digest) (named_digest body)
 command_in json.RevokeCertificate body = option_map (λ digest. command.RevokeCertificate digest) (named_digest body)
 command_in json.RaiseLevel body = option_map (λ raise. command.RaiseLevel raise) (level_of body)
+command_in (json.Explain proposal) body = option_map (λ said. command.Explain said) (explanation_of proposal body)
 
 -- the task of a command and its body; none if a JSON body doesn't have one. Bytes are taken
 -- unchanged

@@ -7,7 +7,8 @@ use desk_calls::Task;
 use desk_exports::Octets;
 use desk_texts::{Command, Key};
 use http_requests::{
-    BodyFault, CommandAsked, JsonAsked, read_digest, read_level, read_review, read_unlist,
+    BodyFault, CommandAsked, JsonAsked, read_digest, read_explanation, read_level, read_review,
+    read_unlist,
 };
 use std::alloc::Global;
 
@@ -23,6 +24,9 @@ fn read_command(alloc: Global, asked: JsonAsked, body: &[u8]) -> Result<Command,
         JsonAsked::RevokeDigest => Ok(Command::RevokeDigest(read_digest(alloc, body)?)),
         JsonAsked::RevokeCertificate => Ok(Command::RevokeCertificate(read_digest(alloc, body)?)),
         JsonAsked::RaiseLevel => Ok(Command::RaiseLevel(read_level(alloc, body)?)),
+        JsonAsked::Explain(proposal) => {
+            Ok(Command::Explain(read_explanation(alloc, proposal, body)?))
+        }
     }
 }
 

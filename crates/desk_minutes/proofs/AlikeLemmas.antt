@@ -54,6 +54,7 @@ second_neutral cs c (command.RaiseLevel r) h = absurd (cc)
 second_neutral cs c (command.ImportRevocations i) h = absurd (cc)
 second_neutral cs c (command.Confirm k) h = absurd (cc)
 second_neutral cs c (command.Drop k) h = absurd (cc)
+second_neutral cs c (command.Explain x) h = neutral refl refl
 
 -- a call that closes no proposal gets no reply of the second rules by the first
 pub first_reply : (cs : History) (c : Call) (given : Command) → outcome_by given ≡ None → is_of_second (reply_by cs (under First c) given) ≡ false
@@ -71,6 +72,7 @@ first_reply cs c (command.RaiseLevel r) h = refl
 first_reply cs c (command.ImportRevocations i) h = refl
 first_reply cs c (command.Confirm k) h = absurd (cc)
 first_reply cs c (command.Drop k) h = absurd (cc)
+first_reply cs c (command.Explain x) h = refl
 
 confirmed_none : (cs : History) (c : Command) → outcome_by c ≡ None → confirmed_by cs c ≡ None
 confirmed_none cs (command.AddPerson p) h = refl
@@ -87,6 +89,7 @@ confirmed_none cs (command.RaiseLevel r) h = refl
 confirmed_none cs (command.ImportRevocations i) h = refl
 confirmed_none cs (command.Confirm k) h = absurd (cc)
 confirmed_none cs (command.Drop k) h = absurd (cc)
+confirmed_none cs (command.Explain x) h = refl
 
 confirmed_same : (a b : History) (c : Command) → proposals a ≡ proposals b → confirmed_by a c ≡ confirmed_by b c
 confirmed_same a b (command.Confirm k) e = ap (λ ps. option_map (λ p. p.named.entries) (find (is_proposal k) ps)) e
@@ -103,6 +106,7 @@ confirmed_same a b (command.RevokeCertificate d) e = refl
 confirmed_same a b (command.RaiseLevel r) e = refl
 confirmed_same a b (command.ImportRevocations i) e = refl
 confirmed_same a b (command.Drop k) e = refl
+confirmed_same a b (command.Explain x) e = refl
 
 -- ---- calls that do the same
 
@@ -194,6 +198,7 @@ module _ (a b : History) (c : Call) (r s : Rules) (h : AreSame a b) (k : IsAlike
       ∙ named_rules a r s _ (replies.Imported (counted b (under s c))) e ∙ proposed_over a b s (replies.Imported (counted b (under s c))) h.same_proposals
   reply_by_same (command.Confirm n) e = ap (λ t. replies.Confirmed (record { proposal = n; counts = t })) counted_same
   reply_by_same (command.Drop n) e = refl
+  reply_by_same (command.Explain x) e = refl
 
   pub reply_same : reply_to a (under r c) ≡ reply_to b (under s c)
   reply_same = reply_by_same c.command k.proposed

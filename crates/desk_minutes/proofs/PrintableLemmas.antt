@@ -18,19 +18,19 @@ use Rattle.desk_texts.specs.Words.{kind_text, role_text, state_text, vote_text}
 use Rattle.desk_texts.specs.declared.caller.Caller.{Caller}
 use Rattle.desk_texts.specs.declared.caller.Caller.TheVariants as callers
 use Rattle.desk_texts.specs.declared.command.Command.{Command}
-use Rattle.desk_texts.specs.declared.command.Command.TheVariants.{AddPerson, Submit, Review, Withdraw, Return, ListCertificate, ListDigest, Unlist, RevokeDigest, RevokeCertificate, RaiseLevel, ImportRevocations, Confirm, Drop}
+use Rattle.desk_texts.specs.declared.command.Command.TheVariants.{AddPerson, Submit, Review, Withdraw, Return, ListCertificate, ListDigest, Unlist, RevokeDigest, RevokeCertificate, RaiseLevel, ImportRevocations, Confirm, Drop, Explain}
 use Rattle.desk_texts.specs.declared.facts.Facts.{Facts}
 use Rattle.desk_texts.specs.declared.kind.ListedKind.{ListedKind}
 use Rattle.desk_texts.specs.declared.kind.ListedKind.TheVariants as kinds
 use Rattle.desk_texts.specs.declared.reply.Reply.{Reply}
-use Rattle.desk_texts.specs.declared.reply.Reply.TheVariants.{Added, Submitted, Reviewed, Withdrawn, Returned, Listed, Unlisted, Revoked, Raised, Imported, Proposed, Confirmed, Dropped}
+use Rattle.desk_texts.specs.declared.reply.Reply.TheVariants.{Added, Submitted, Reviewed, Withdrawn, Returned, Listed, Unlisted, Revoked, Raised, Imported, Proposed, Confirmed, Dropped, Explained}
 use Rattle.desk_texts.specs.declared.role.Role.{Role}
 use Rattle.desk_texts.specs.declared.role.Role.TheVariants.{Submitter, Reviewer, Officer, Signer}
 use Rattle.desk_texts.specs.declared.state.State.{State}
 use Rattle.desk_texts.specs.declared.state.State.TheVariants as states
 use Rattle.desk_texts.specs.declared.vote.Vote.{Vote}
 use Rattle.desk_texts.specs.declared.vote.Vote.TheVariants.{Yes, No}
-use Rattle.desk_texts.proofs.FormLemmas.{both, joined, list_all-weaker, printable-note, printable-person_name, printable-title}
+use Rattle.desk_texts.proofs.FormLemmas.{both, joined, list_all-weaker, printable-note, printable-person_name, printable-reason, printable-title}
 use Rattle.desk_texts.proofs.PartLemmas.{request_small}
 use Rattle.desk_texts.proofs.ValueLemmas.{decimal_digits, generation_small, hex_digits, name_bytes, stamp_size}
 
@@ -214,6 +214,9 @@ printable-command (Confirm proposal) h =
     printable-spaced (codes "confirm" ∷ decimal proposal ∷ []) (more (word refl) (last (printable-decimal proposal (request_small proposal h))))
 printable-command (Drop proposal) h =
     printable-spaced (codes "drop" ∷ decimal proposal ∷ []) (more (word refl) (last (printable-decimal proposal (request_small proposal h))))
+printable-command (Explain x) h =
+    printable-spaced (codes "explain" ∷ decimal x.proposal ∷ x.reason ∷ [])
+    (more (word refl) (more (printable-decimal x.proposal (request_small x.proposal h.0)) (last (word (printable-reason x.reason h.1)))))
 
 pub printable-reply : (r : Reply) → IsReply r → IsPrintable (reply_text_of r)
 printable-reply (Added name) h = printable-spaced (codes "added" ∷ name ∷ []) (more (word refl) (last (word (printable-person_name name h))))
@@ -246,3 +249,5 @@ printable-reply (Confirmed c) h =
     (more (printable-decimal c.counts.components h.1.2) (last (printable-decimal c.counts.passed h.1.3)))))))
 printable-reply (Dropped proposal) h =
     printable-spaced (codes "dropped" ∷ decimal proposal ∷ []) (more (word refl) (last (printable-decimal proposal (request_small proposal h))))
+printable-reply (Explained proposal) h =
+    printable-spaced (codes "explained" ∷ decimal proposal ∷ []) (more (word refl) (last (printable-decimal proposal (request_small proposal h))))

@@ -23,7 +23,7 @@ use Rattle.desk_history.specs.Limits.{is_within, most_calls, most_level_componen
 use Rattle.desk_history.specs.Listing.{has_entry, is_listed, listed}
 use Rattle.desk_history.specs.People.{added_by, people}
 use Rattle.desk_history.specs.Proposals.{Proposal, is_proposal, outcome_by, outcomes, proposal_state, proposals}
-use Rattle.desk_history.specs.Refusals.{add_refusal, confirm_by, confirm_refusal, drop_refusal, force_refusal, import_refusal, is_known, is_one_of, is_theirs, may_give, own_refusal, raise_refusal, refuse_if, return_refusal, review_refusal, withdraw_refusal}
+use Rattle.desk_history.specs.Refusals.{add_refusal, confirm_by, confirm_refusal, drop_refusal, explain_refusal, force_refusal, import_refusal, is_known, is_one_of, is_theirs, may_give, own_refusal, raise_refusal, refuse_if, return_refusal, review_refusal, withdraw_refusal}
 use Rattle.desk_history.specs.Replies.{minutes}
 use Rattle.desk_history.specs.Requests.{Returned, has_number, is_withdrawn, numbered, request, requests, return_of, returns, state, state_by, submission_of, vote_of, votes, votes_on, withdraws}
 use Rattle.desk_history.specs.Revocations.{is_revoked, revocations}
@@ -163,6 +163,7 @@ module _ (a b : History) (h : AreSame a b) where
   force_refusal_same (command.Unlist _) = refl
   force_refusal_same (command.Confirm _) = refl
   force_refusal_same (command.Drop _) = refl
+  force_refusal_same (command.Explain _) = refl
 
   confirm_refusal_same : (o : Option Proposal) (s : ProposalState) (name : List ℕ) → confirm_refusal a o s name ≡ confirm_refusal b o s name
   confirm_refusal_same None s name = refl
@@ -191,6 +192,7 @@ module _ (a b : History) (h : AreSame a b) where
       ∙ confirm_refusal_same (find (is_proposal k) (proposals b)) (proposal_state b k) name
   own_refusal_same name (command.Drop k) =
       ap₂ (λ ps s. drop_refusal (find (is_proposal k) ps) s) h.same_proposals (proposal_state_same a b h.same_calls k)
+  own_refusal_same name (command.Explain x) = ap (λ ps. explain_refusal (find (is_proposal x.proposal) ps)) h.same_proposals
 
   pub known_same : (c : Caller) → is_known a c ≡ is_known b c
   known_same c = ap (λ ps. is_one_of ps c) (people_same a b h.same_calls)

@@ -6,7 +6,7 @@ use Rattle.desk_texts.specs.declared.reply.Reply.TheVariants as replies
 use Rattle.desk_history.specs.Calls.{First, History, Rules, Second, under}
 use Rattle.desk_history.specs.Replies.{minutes}
 
--- only the second rules give the reply
+-- only the second rules give the reply; an Explained needs no test, since a Proposed came before it
 abbrev pub is_of_second : Reply → Bool
 is_of_second (replies.Added _) = false
 is_of_second (replies.Submitted _) = false
@@ -21,6 +21,7 @@ is_of_second (replies.Imported _) = false
 is_of_second (replies.Proposed _) = true
 is_of_second (replies.Confirmed _) = true
 is_of_second (replies.Dropped _) = true
+is_of_second (replies.Explained _) = false
 
 -- the minutes have a reply that only the second rules give
 abbrev pub shows_second : History → Bool

@@ -24,5 +24,6 @@ pub fn is_same_reply(one: &Reply, other: &Reply) -> bool
         Reply::Proposed(number) => matches!(other, Reply::Proposed(told) if number == told),
         Reply::Confirmed(made) => matches!(other, Reply::Confirmed(told) if made == told),
         Reply::Dropped(number) => matches!(other, Reply::Dropped(told) if number == told),
+        Reply::Explained(number) => matches!(other, Reply::Explained(told) if number == told),
     }
 }

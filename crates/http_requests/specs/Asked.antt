@@ -133,6 +133,7 @@ command_at route.ImportCsv w = stamped (stamp_in w) (λ stamp. Bytes (bytes.Impo
 command_at route.ImportLevel w = Ok (Bytes bytes.ImportLevel)
 command_at route.Confirm w = of_proposal (number_in w) (λ number. Whole (command.Confirm number))
 command_at route.Drop w = of_proposal (number_in w) (λ number. Whole (command.Drop number))
+command_at route.Explain w = of_proposal (number_in w) (λ number. Json (json.Explain number))
 
 -- a command under this key
 abbrev pub under : List ℕ → Result CommandAsked AskedFault → Result KeyedAsked AskedFault

@@ -61,11 +61,12 @@ with_images rows =
 -- the rows and the paths of proposals
 unfoldable pub with_proposals : Table → Table
 with_proposals rows =
-    added (codes "/proposals/{no}/drop") (post_command command.Drop)
+    added (codes "/proposals/{no}/explain") (post_command command.Explain)
+    (added (codes "/proposals/{no}/drop") (post_command command.Drop)
     (added (codes "/proposals/{no}/confirm") (post_command command.Confirm)
     (added (codes "/proposals/{no}/impact") (get read.Impact)
     (added (codes "/proposals/{no}") (get read.Proposal)
-    (added (codes "/proposals") (get read.Proposals) rows))))
+    (added (codes "/proposals") (get read.Proposals) rows)))))
 
 -- the rows and the paths of the lists
 unfoldable pub with_lists : Table → Table

@@ -30,6 +30,7 @@ is_conditional (Command command.ImportCsv) = false
 is_conditional (Command command.ImportLevel) = false
 is_conditional (Command command.Confirm) = true
 is_conditional (Command command.Drop) = true
+is_conditional (Command command.Explain) = true
 
 -- the strong entity tag of a digest: its 64 lower-case hexadecimal digits in double quotes (RFC
 -- 9110, section 8.8.3)

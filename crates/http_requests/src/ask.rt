@@ -1,7 +1,7 @@
 //! A request without its body.
 
 use desk_exports::Reading;
-use desk_texts::{Command, Key, RequestNumber, Title};
+use desk_texts::{Command, Key, ProposalNumber, RequestNumber, Title};
 use sbat::Stamp;
 
 /// A request to read.
@@ -55,6 +55,8 @@ pub enum JsonAsked {
     /// By the SHA-256 of its TBSCertificate.
     RevokeCertificate,
     RaiseLevel,
+    /// A reason for this proposal.
+    Explain(ProposalNumber),
 }
 
 /// A command whose content is in a format of its own.

@@ -166,6 +166,7 @@ fn command(route: CommandRoute, wanted: &Wanted<'_>) -> Result<CommandAsked, Ask
         CommandRoute::ImportLevel => CommandAsked::Bytes(BytesAsked::ImportLevel),
         CommandRoute::Confirm => CommandAsked::Whole(Command::Confirm(proposal(wanted)?)),
         CommandRoute::Drop => CommandAsked::Whole(Command::Drop(proposal(wanted)?)),
+        CommandRoute::Explain => CommandAsked::Json(JsonAsked::Explain(proposal(wanted)?)),
     })
 }
 

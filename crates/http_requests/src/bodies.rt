@@ -7,4 +7,4 @@ mod reading;
 mod values;
 
 pub use fault::BodyFault;
-pub use reading::{read_digest, read_level, read_review, read_unlist};
+pub use reading::{read_digest, read_explanation, read_level, read_review, read_unlist};

@@ -31,6 +31,8 @@ pub fn paths_of_proposals_are_found()
     ensures confirm { resource_of (codes "/proposals/12/confirm")
         ≡ Some (post_command command.Confirm) }
     ensures drop { resource_of (codes "/proposals/12/drop") ≡ Some (post_command command.Drop) }
+    ensures explain { resource_of (codes "/proposals/12/explain")
+        ≡ Some (post_command command.Explain) }
     ensures no_number { resource_of (codes "/proposals/x/confirm")
         ≡ Some (post_command command.Confirm) }
 {}

@@ -102,6 +102,8 @@ pub enum CommandRoute {
     Confirm,
     /// `/proposals/{no}/drop`; the content has no effect.
     Drop,
+    /// `/proposals/{no}/explain`, with a reason.
+    Explain,
 }
 
 impl Route {

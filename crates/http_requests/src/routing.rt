@@ -134,6 +134,7 @@ fn add_proposals(router: &mut Router<Resource>) -> Result<(), InsertError>
     add_get(router, "/proposals/{no}/impact", GetRoute::Impact)?;
     add_command(router, "/proposals/{no}/confirm", CommandRoute::Confirm)?;
     add_command(router, "/proposals/{no}/drop", CommandRoute::Drop)?;
+    add_command(router, "/proposals/{no}/explain", CommandRoute::Explain)?;
     Ok(())
 }
 

@@ -18,7 +18,8 @@ fn is_conditional(route: PostRoute) -> bool
             CommandRoute::Review
             | CommandRoute::Withdraw
             | CommandRoute::Confirm
-            | CommandRoute::Drop,
+            | CommandRoute::Drop
+            | CommandRoute::Explain,
         ) => true,
         PostRoute::Image(ImageRoute::Submit | ImageRoute::Verdict | ImageRoute::Facts)
         | PostRoute::Command(

@@ -17,7 +17,7 @@ use Rattle.desk_texts.specs.declared.facts.Facts.{Facts}
 use Rattle.desk_texts.specs.declared.proposal.Proposal.{Proposal}
 use Rattle.desk_texts.specs.declared.reply.Counts.{Counts}
 use Rattle.desk_texts.specs.declared.reply.Reply.{Reply}
-use Rattle.desk_texts.specs.declared.reply.Reply.TheVariants.{Added, Submitted, Reviewed, Withdrawn, Returned, Listed, Unlisted, Revoked, Raised, Imported, Proposed, Confirmed, Dropped}
+use Rattle.desk_texts.specs.declared.reply.Reply.TheVariants.{Added, Submitted, Reviewed, Withdrawn, Returned, Listed, Unlisted, Revoked, Raised, Imported, Proposed, Confirmed, Dropped, Explained}
 use Rattle.desk_texts.specs.declared.shown.ShownRequest.{ShownRequest}
 use Rattle.desk_texts.specs.declared.shown.ShownReturn.{ShownReturn}
 use Rattle.http_responses.specs.json.Values.{digest_data, component_data}
@@ -121,6 +121,7 @@ reply_cases (Imported counts) = refl
 reply_cases (Proposed proposal) = refl
 reply_cases (Confirmed confirmation) = refl
 reply_cases (Dropped proposal) = refl
+reply_cases (Explained proposal) = refl
 
 -- the value that is made of a reply has none
 pub reply_has_no_float : (reply : Reply) (v : Value) → Some (view v) ≡ reply_data reply → has_float (view v) ≡ false

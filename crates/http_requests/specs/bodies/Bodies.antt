@@ -6,11 +6,12 @@ use Rattle.serde_json.specs.Read.{read}
 use Rattle.desk_bytes.specs.declared.refusal.Refusal.{Refusal}
 use Rattle.desk_bytes.specs.declared.refusal.Refusal.TheVariants as refusal
 use Rattle.desk_texts.specs.declared.command.Ballot.{Ballot}
+use Rattle.desk_texts.specs.declared.command.Explanation.{Explanation}
 use Rattle.desk_texts.specs.declared.command.Listing.{Listing}
 use Rattle.desk_texts.specs.declared.command.Raise.{Raise}
 use Rattle.desk_texts.specs.declared.vote.Vote.{Vote}
 use Rattle.desk_texts.specs.declared.kind.ListedKind.{ListedKind}
-use Rattle.http_requests.specs.bodies.Forms.{digest_in, vote_in, kind_in, note_in, name_in, generation_in, stamp_in}
+use Rattle.http_requests.specs.bodies.Forms.{digest_in, vote_in, kind_in, note_in, reason_in, name_in, generation_in, stamp_in}
 use Rattle.http_requests.specs.bodies.Members.{one_of, two_of, three_of}
 use Rattle.http_requests.specs.declared.bodies.fault.BodyFault.{BodyFault}
 use Rattle.http_requests.specs.declared.bodies.fault.BodyFault.TheVariants.{BadBody, NoMemory}
@@ -66,6 +67,15 @@ level_from (Some values) = level_by (name_in values.0) (generation_in values.1) 
 abbrev pub level_in : Data → Option Raise
 level_in d = level_from (three_of (codes "component") (codes "generation") (codes "stamp") d)
 
+-- the explanation of a proposal, with this reason
+abbrev pub explanation_by : ℕ → Option (List ℕ) → Option Explanation
+explanation_by proposal None = None
+explanation_by proposal (Some reason) = Some (record { proposal = proposal; reason = reason })
+
+-- {"text":TEXT}
+abbrev pub explanation_in : ℕ → Data → Option Explanation
+explanation_in proposal d = explanation_by proposal (option_and_then reason_in (one_of (codes "text") d))
+
 -- the review of a request in a body
 abbrev pub review_of : ℕ → List ℕ → Option Ballot
 review_of request body = option_and_then (review_in request) (data_of body)
@@ -81,6 +91,10 @@ unlist_of body = option_and_then unlist_in (data_of body)
 -- the raise of the level in a body
 abbrev pub level_of : List ℕ → Option Raise
 level_of body = option_and_then level_in (data_of body)
+
+-- the explanation of a proposal in a body
+abbrev pub explanation_of : ℕ → List ℕ → Option Explanation
+explanation_of proposal body = option_and_then (explanation_in proposal) (data_of body)
 
 -- its row in the table of refusals
 abbrev pub refusal_of : BodyFault → Refusal

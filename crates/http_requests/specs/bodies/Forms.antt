@@ -4,7 +4,7 @@ use Rattle.serde_json.specs.Data.{Data}
 use Rattle.serde_json.specs.Find.{as_number, as_str, as_u64}
 use Rattle.sbat.specs.Fields.{is_name, is_generation, is_stamp}
 use Rattle.desk_bytes.specs.Digests.{digest_of}
-use Rattle.desk_texts.specs.Forms.{is_note}
+use Rattle.desk_texts.specs.Forms.{is_note, is_reason}
 use Rattle.desk_texts.specs.Words.{vote_text, kind_text}
 use Rattle.desk_texts.specs.declared.vote.Vote.{Vote}
 use Rattle.desk_texts.specs.declared.vote.Vote.TheVariants as vote
@@ -42,6 +42,14 @@ note_of text = if is_note text then Some text else None
 -- the note in a value
 abbrev pub note_in : Data → Option (List ℕ)
 note_in d = option_and_then note_of (as_str d)
+
+-- a text in the form of a reason
+abbrev pub reason_of : List ℕ → Option (List ℕ)
+reason_of text = if is_reason text then Some text else None
+
+-- the reason in a value
+abbrev pub reason_in : Data → Option (List ℕ)
+reason_in d = option_and_then reason_of (as_str d)
 
 -- a text in the form of a component's name
 abbrev pub name_of : List ℕ → Option (List ℕ)

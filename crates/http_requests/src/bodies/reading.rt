@@ -5,9 +5,11 @@ ghost use Rattle.http_requests.specs.bodies.Bodies as spec;
 
 use crate::BodyFault;
 use crate::bodies::members::{one_member, three_members, two_members};
-use crate::bodies::values::{component, digest, generation, kind, note, parse, stamp, vote};
+use crate::bodies::values::{
+    component, digest, generation, kind, note, parse, reason, stamp, vote,
+};
 use desk_bytes::Digest;
-use desk_texts::{Ballot, Listing, Raise, RequestNumber};
+use desk_texts::{Ballot, Explanation, Listing, ProposalNumber, Raise, RequestNumber};
 use sbat::Component;
 use serde_json::Value;
 use std::alloc::Global;
@@ -75,6 +77,23 @@ fn level_in(alloc: Global, value: &Value) -> Result<Raise, BodyFault>
     })
 }
 
+/// The explanation of a proposal in a value.
+fn explanation_in(
+    alloc: Global,
+    proposal: ProposalNumber,
+    value: &Value,
+) -> Result<Explanation, BodyFault>
+    ensures ok { IfOk result (λ explanation.
+        spec.explanation_in proposal (view value.now) ≡ Some explanation) }
+    ensures err { IfErr result (spec.Refuses (spec.explanation_in proposal (view value.now))) }
+{
+    let Some(text) = one_member(value, "text") else {
+        return Err(BodyFault::BadBody);
+    };
+    let reason = reason(alloc, text)?;
+    Ok(Explanation { proposal, reason })
+}
+
 /// Reads the body `{"note":TEXT,"vote":"yes" or "no"}` of a review of the request. Takes memory.
 ///
 /// `BadBody`: the bytes aren't this object, or the text isn't a note. `NoMemory`: memory was
@@ -120,4 +139,21 @@ pub fn read_level(alloc: Global, body: &[u8]) -> Result<Raise, BodyFault>
 {
     let value = parse(alloc, body)?;
     level_in(alloc, &value)
+}
+
+/// Reads the body `{"text":TEXT}` of an explanation of the proposal. Takes memory.
+///
+/// `BadBody`: the bytes aren't this object, or the text isn't a reason. `NoMemory`: memory was
+/// refused.
+pub fn read_explanation(
+    alloc: Global,
+    proposal: ProposalNumber,
+    body: &[u8],
+) -> Result<Explanation, BodyFault>
+    ensures ok { IfOk result (λ explanation.
+        spec.explanation_of proposal body.now ≡ Some explanation) }
+    ensures err { IfErr result (spec.Refuses (spec.explanation_of proposal body.now)) }
+{
+    let value = parse(alloc, body)?;
+    explanation_in(alloc, proposal, &value)
 }

@@ -6,7 +6,7 @@ ghost use Rattle.http_requests.specs.bodies.Forms as form;
 
 use crate::BodyFault;
 use desk_bytes::Digest;
-use desk_texts::{ListedKind, Note, TextFault, Vote};
+use desk_texts::{ListedKind, Note, Reason, TextFault, Vote};
 use sbat::{ComponentName, Generation, NameFault, Stamp};
 use serde_json::Value;
 use std::alloc::Global;
@@ -99,6 +99,21 @@ pub(crate) fn note(alloc: Global, value: &Value) -> Result<Note, BodyFault>
     };
     match Note::parse(alloc, text.as_bytes()) {
         Ok(note) => Ok(note),
+        Err(TextFault::Form) => Err(BodyFault::BadBody),
+        Err(TextFault::NoMemory) => Err(BodyFault::NoMemory),
+    }
+}
+
+/// The reason in a value.
+pub(crate) fn reason(alloc: Global, value: &Value) -> Result<Reason, BodyFault>
+    ensures ok { IfOk result (λ reason. form.reason_in (view value.now) ≡ Some reason) }
+    ensures err { IfErr result (Refuses (form.reason_in (view value.now))) }
+{
+    let Some(text) = value.as_str() else {
+        return Err(BodyFault::BadBody);
+    };
+    match Reason::parse(alloc, text.as_bytes()) {
+        Ok(reason) => Ok(reason),
         Err(TextFault::Form) => Err(BodyFault::BadBody),
         Err(TextFault::NoMemory) => Err(BodyFault::NoMemory),
     }

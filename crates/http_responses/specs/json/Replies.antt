@@ -6,7 +6,7 @@ use Rattle.desk_texts.specs.declared.reply.Confirmation.{Confirmation}
 use Rattle.desk_texts.specs.declared.reply.Counts.{Counts}
 use Rattle.desk_texts.specs.declared.reply.Outcome.{Outcome}
 use Rattle.desk_texts.specs.declared.reply.Reply.{Reply}
-use Rattle.desk_texts.specs.declared.reply.Reply.TheVariants.{Added, Submitted, Reviewed, Withdrawn, Returned, Listed, Unlisted, Revoked, Raised, Imported, Proposed, Confirmed, Dropped}
+use Rattle.desk_texts.specs.declared.reply.Reply.TheVariants.{Added, Submitted, Reviewed, Withdrawn, Returned, Listed, Unlisted, Revoked, Raised, Imported, Proposed, Confirmed, Dropped, Explained}
 use Rattle.http_responses.specs.json.Values.{object_from, whole}
 
 -- a reply of one word
@@ -71,3 +71,4 @@ reply_data (Imported counts) = Some (imported_data counts)
 reply_data (Proposed proposal) = Some (about_proposal (codes "proposed") proposal)
 reply_data (Confirmed confirmation) = Some (confirmed_data confirmation)
 reply_data (Dropped proposal) = Some (about_proposal (codes "dropped") proposal)
+reply_data (Explained proposal) = Some (about_proposal (codes "explained") proposal)

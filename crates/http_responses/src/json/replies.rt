@@ -98,6 +98,7 @@ fn value_of(alloc: Global, reply: &Reply) -> Result<Option<Value>, AllocError>
         Reply::Proposed(proposal) => of_proposal(alloc, "proposed", *proposal)?,
         Reply::Confirmed(confirmation) => confirmation_value(alloc, *confirmation)?,
         Reply::Dropped(proposal) => of_proposal(alloc, "dropped", *proposal)?,
+        Reply::Explained(proposal) => of_proposal(alloc, "explained", *proposal)?,
     };
     Ok(Some(value))
 }
