@@ -18,9 +18,7 @@ mod wanting;
 
 pub use ask::{BytesAsked, CommandAsked, ImageAsked, JsonAsked, KeyedAsked, ReadAsked};
 pub use asking::{command_asked, image_asked, read_asked};
-pub use bodies::{
-    BodyFault, read_digest, read_explanation, read_level, read_review, read_unlist,
-};
+pub use bodies::{BodyFault, read_digest, read_explanation, read_level, read_review, read_unlist};
 pub use fault::{AskedFault, WantedFault};
 pub use heads::{
     Begun, Given, Head, ParsedHead, head_is_one, read_body, read_head, what_follows_changes_nothing,

@@ -128,6 +128,7 @@ fn reply(command: &Command) -> Option<Reply> {
             },
         })),
         Command::Drop(proposal) => Some(Reply::Dropped(*proposal)),
+        Command::Explain(explanation) => Some(Reply::Explained(explanation.proposal)),
     }
 }
 

@@ -1,9 +1,9 @@
 //! The words of a line, and their values.
 use desk_bytes::Digest;
 use desk_texts::{
-    Ballot, Call, Caller, Carried, Certificate, Command, Digests, Facts, Import,
+    Ballot, Call, Caller, Carried, Certificate, Command, Digests, Explanation, Facts, Import,
     ImportedComponents, Key, ListedKind, Listing, Note, Person, PersonName, ProposalNumber, Raise,
-    RequestNumber, ReturnedFile, Role, Submission, Title, Vote,
+    Reason, RequestNumber, ReturnedFile, Role, Submission, Title, Vote,
 };
 use pe_image::Extent;
 use sbat::{Component, ComponentName, Components, Generation, Stamp};
@@ -162,6 +162,13 @@ impl<'a> Words<'a> {
         Some(Command::ImportRevocations(import))
     }
 
+    /// A proposal's number, and one word for the reason.
+    fn explanation(&mut self) -> Option<Command> {
+        let proposal = self.proposal()?;
+        let reason = Reason::parse(self.alloc, self.text()?.as_bytes()).ok()?;
+        Some(Command::Explain(Explanation { proposal, reason }))
+    }
+
     /// The command of a verb, by the words after it.
     pub fn command(&mut self, verb: &str) -> Option<Command> {
         match verb {
@@ -181,6 +188,7 @@ impl<'a> Words<'a> {
             "import" => self.import(),
             "confirm" => Some(Command::Confirm(self.proposal()?)),
             "drop" => Some(Command::Drop(self.proposal()?)),
+            "explain" => self.explanation(),
             _ => None,
         }
     }

@@ -1,7 +1,9 @@
 //! JSON bodies.
 use desk_bytes::Digest;
-use desk_texts::{Ballot, ListedKind, RequestNumber, Vote};
-use http_requests::{BodyFault, read_digest, read_level, read_review, read_unlist};
+use desk_texts::{Ballot, Explanation, ListedKind, ProposalNumber, RequestNumber, Vote};
+use http_requests::{
+    BodyFault, read_digest, read_explanation, read_level, read_review, read_unlist,
+};
 use std::alloc::{AllocError, Global};
 
 /// Bodies, each after its reader's name and the outcome.
@@ -52,6 +54,19 @@ level BadBody {"component":"a,b","generation":3,"stamp":2024010100}
 level BadBody {"component":"","generation":3,"stamp":2024010100}
 level BadBody {"component":"grub","generation":3}
 level BadBody {"component":"grub","generation":3,"stamp":2024010100,"why":""}
+explanation Ok {"text":"key of 2023 \u0041"}
+explanation Ok {"text":"a","text":"b"}
+explanation BadBody {"text":""}
+explanation BadBody {"text":" lost"}
+explanation BadBody {"text":"lost "}
+explanation BadBody {"text":" "}
+explanation BadBody {"text":"lost\n"}
+explanation BadBody {"text":"é"}
+explanation BadBody {"text":1}
+explanation BadBody {"reason":"lost"}
+explanation BadBody {"text":"lost","why":""}
+explanation BadBody {}
+explanation BadBody "lost"
 "#;
 
 /// The review of the first request in a body.
@@ -59,10 +74,19 @@ fn review(alloc: Global, body: &[u8]) -> Option<Result<Ballot, BodyFault>> {
     Some(read_review(alloc, RequestNumber::new(1)?, body))
 }
 
+/// The explanation of the first proposal in a body.
+fn explanation(alloc: Global, body: &[u8]) -> Option<Result<Explanation, BodyFault>> {
+    Some(read_explanation(alloc, ProposalNumber::new(1)?, body))
+}
+
 /// The outcome of the reader of this name: the name of the refusal, or `Ok`.
 fn outcome(alloc: Global, reader: &str, body: &[u8]) -> &'static str {
     let fault = match reader {
         "review" => match review(alloc, body) {
+            Some(read) => read.err(),
+            None => return "no number",
+        },
+        "explanation" => match explanation(alloc, body) {
             Some(read) => read.err(),
             None => return "no number",
         },
@@ -133,15 +157,43 @@ fn gives_a_level(alloc: Global) -> Option<bool> {
     Some(is_component && raise.stamp.value() == 2_024_010_100)
 }
 
-/// The refusal of a body for a component whose name has this many bytes, or `Ok`.
-fn outcome_of_name(alloc: Global, length: usize) -> Result<&'static str, AllocError> {
+/// Whether the proposal and the last reason of an explanation are read.
+fn gives_an_explanation(alloc: Global) -> Option<bool> {
+    let text = br#"{"text":"a","text":"b c"}"#;
+    let explanation = explanation(alloc, text)?.ok()?;
+    let is_first = Some(explanation.proposal) == ProposalNumber::new(1);
+    Some(is_first && explanation.reason.as_str() == "b c")
+}
+
+/// The outcome of a reader of a body that has a text of this many bytes between these.
+fn outcome_between(
+    alloc: Global,
+    reader: &str,
+    ends: (&[u8], &[u8]),
+    length: usize,
+) -> Result<&'static str, AllocError> {
     let mut body = Vec::new(alloc);
-    body.extend_from_slice(br#"{"component":""#)?;
+    body.extend_from_slice(ends.0)?;
     for _ in 0..length {
         body.push(b'n')?;
     }
-    body.extend_from_slice(br#"","generation":3,"stamp":2024010100}"#)?;
-    Ok(outcome(alloc, "level", body.as_slice()))
+    body.extend_from_slice(ends.1)?;
+    Ok(outcome(alloc, reader, body.as_slice()))
+}
+
+/// The refusal of a body for a component whose name has this many bytes, or `Ok`.
+fn outcome_of_name(alloc: Global, length: usize) -> Result<&'static str, AllocError> {
+    let ends = (
+        br#"{"component":""#.as_slice(),
+        br#"","generation":3,"stamp":2024010100}"#.as_slice(),
+    );
+    outcome_between(alloc, "level", ends, length)
+}
+
+/// The refusal of a body with a reason of this many bytes, or `Ok`.
+fn outcome_of_reason(alloc: Global, length: usize) -> Result<&'static str, AllocError> {
+    let ends = (br#"{"text":""#.as_slice(), br#""}"#.as_slice());
+    outcome_between(alloc, "explanation", ends, length)
 }
 
 #[test]
@@ -154,9 +206,22 @@ fn takes_the_longest_names(rt: HostRuntime) {
 }
 
 #[test]
+fn takes_the_longest_reasons(rt: HostRuntime) {
+    assert!(rt; outcome_of_reason(rt.alloc(), 200) == Ok("Ok"), "200 bytes");
+    assert!(rt;
+        outcome_of_reason(rt.alloc(), 201) == Ok("BadBody"),
+        "201 bytes"
+    );
+}
+
+#[test]
 fn gives_the_parts_of_bodies(rt: HostRuntime) {
     assert!(rt; gives_a_review(rt.alloc()) == Some(true), "a review");
     assert!(rt; gives_an_entry(rt.alloc()) == Some(true), "an entry");
     assert!(rt; gives_a_digest(rt.alloc()) == Some(true), "a digest");
     assert!(rt; gives_a_level(rt.alloc()) == Some(true), "a level");
+    assert!(rt;
+        gives_an_explanation(rt.alloc()) == Some(true),
+        "an explanation"
+    );
 }

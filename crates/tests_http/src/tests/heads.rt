@@ -129,12 +129,14 @@ BadMethod GET /facts HTTP/1.1||
 BadMethod HEAD /facts HTTP/1.1|Content-Length: 134217729||
 BadMethod GET /proposals/x/confirm HTTP/1.1||
 BadMethod GET /proposals/x/drop HTTP/1.1||
+BadMethod GET /proposals/x/explain HTTP/1.1||
 LengthNeeded POST /verdict HTTP/1.1||
 LengthNeeded POST /facts HTTP/1.1||
 LengthNeeded POST /level HTTP/1.1||
 LengthNeeded POST /requests/x/review HTTP/1.1|Desk-Key: k||
 LengthNeeded POST /proposals/x/confirm HTTP/1.1|Desk-Key: k||
 LengthNeeded POST /proposals/x/drop HTTP/1.1||
+LengthNeeded POST /proposals/x/explain HTTP/1.1||
 BadField GET /level HTTP/1.1|Content-Length: 1||
 BadField GET /requests/x HTTP/1.1|Content-Length: 9999999999||
 BadField GET /proposals HTTP/1.1|Content-Length: 1||
@@ -149,6 +151,7 @@ TooLarge POST /imports/dbx HTTP/1.1|Content-Length: 134217728||
 TooLarge POST /requests/x/withdraw HTTP/1.1|Content-Length: 4194305|Desk-Key: k||
 TooLarge POST /proposals/x/confirm HTTP/1.1|Content-Length: 4194305||
 TooLarge POST /proposals/x/drop HTTP/1.1|Content-Length: 4194305||
+TooLarge POST /proposals/x/explain HTTP/1.1|Content-Length: 4194305||
 BadField POST /level HTTP/1.1|Content-Length: 4194304||
 BadField POST /requests HTTP/1.1|Content-Length: 1|Desk-Title: t||
 BadField POST /requests HTTP/1.1|Content-Length: 1|Desk-Key: k||
@@ -160,6 +163,7 @@ BadField POST /imports/csv HTTP/1.1|Content-Length: 1|Desk-Key: k|Desk-Stamp:||
 BadField POST /requests/x/review HTTP/1.1|Content-Length: 1||
 BadField POST /proposals/x/confirm HTTP/1.1|Content-Length: 0||
 BadField POST /proposals/0/drop HTTP/1.1|Content-Length: 0|Desk-Key: a b||
+BadField POST /proposals/0/explain HTTP/1.1|Content-Length: 0||
 NoSuchRequest POST /requests/x/review HTTP/1.1|Content-Length: 1|Desk-Key: k||
 NoSuchRequest GET /requests/0 HTTP/1.1||
 NoSuchRequest GET /requests/from HTTP/1.1||
@@ -180,6 +184,7 @@ NoSuchProposal POST /proposals/0/confirm HTTP/1.1|Content-Length: 0|Desk-Key: k|
 NoSuchProposal POST /proposals/07/confirm HTTP/1.1|Content-Length: 0|Desk-Key: k||
 NoSuchProposal POST /proposals/1000000/drop HTTP/1.1|Content-Length: 0|Desk-Key: k||
 NoSuchProposal POST /proposals/+1/drop HTTP/1.1|Content-Length: 0|Desk-Key: k||
+NoSuchProposal POST /proposals/01/explain HTTP/1.1|Content-Length: 0|Desk-Key: k||
 Submit POST /requests HTTP/1.1|Content-Length: 0134217728|Desk-Key: k|Desk-Title: t||
 Requests GET /requests HTTP/1.1||
 Request GET /requests/999999 HTTP/1.1||
@@ -199,6 +204,7 @@ ImportCsv POST /imports/csv HTTP/1.1|Content-Length: 1|Desk-Key: k||
 ImportLevel POST /imports/level HTTP/1.1|Content-Length: 1|Desk-Key: k|Desk-Stamp: x||
 Confirm POST /proposals/1/confirm HTTP/1.1|Content-Length: 4194304|Desk-Key: k||
 Drop POST /proposals/999999/drop HTTP/1.1|Content-Length: 0|Desk-Key: k||
+Explain POST /proposals/999999/explain HTTP/1.1|Content-Length: 4194304|Desk-Key: k||
 Proposals GET /proposals HTTP/1.1||
 Proposal GET /proposals/999999 HTTP/1.1||
 Impact GET /proposals/1/impact HTTP/1.1||
@@ -321,7 +327,8 @@ fn name_of_whole(command: &Command) -> &'static str {
         | Command::RevokeDigest(_)
         | Command::RevokeCertificate(_)
         | Command::RaiseLevel(_)
-        | Command::ImportRevocations(_) => "a command with content",
+        | Command::ImportRevocations(_)
+        | Command::Explain(_) => "a command with content",
     }
 }
 
@@ -335,6 +342,7 @@ fn name_of_command(asked: &CommandAsked) -> &'static str {
         CommandAsked::Json(JsonAsked::RevokeDigest) => "RevokeDigest",
         CommandAsked::Json(JsonAsked::RevokeCertificate) => "RevokeCertificate",
         CommandAsked::Json(JsonAsked::RaiseLevel) => "RaiseLevel",
+        CommandAsked::Json(JsonAsked::Explain(_)) => "Explain",
         CommandAsked::Bytes(BytesAsked::ListCertificate) => "ListCertificate",
         CommandAsked::Bytes(BytesAsked::ImportDbx) => "ImportDbx",
         CommandAsked::Bytes(BytesAsked::ImportCsv(_)) => "ImportCsv",

@@ -28,6 +28,10 @@ BadField POST /proposals/12/confirm HTTP/1.1|Content-Length: 0|If-Match: "012345
 0123456789abcdef0123456789abcdef0123456789abcdef0123456789abcdef POST /proposals/12/drop HTTP/1.1|Content-Length: 0|If-Match: "0123456789abcdef0123456789abcdef0123456789abcdef0123456789abcdef"||
 BadField POST /proposals/12/drop HTTP/1.1|Content-Length: 0|If-Match: *||
 BadField POST /proposals/12/drop HTTP/1.1|Content-Length: 0|If-Match: "0123456789abcdef0123456789abcdef0123456789abcdef0123456789abcdef"|If-Match: "0123456789abcdef0123456789abcdef0123456789abcdef0123456789abcdef"||
+- POST /proposals/12/explain HTTP/1.1|Content-Length: 0||
+0123456789abcdef0123456789abcdef0123456789abcdef0123456789abcdef POST /proposals/12/explain HTTP/1.1|Content-Length: 0|If-Match: "0123456789abcdef0123456789abcdef0123456789abcdef0123456789abcdef"||
+BadField POST /proposals/12/explain HTTP/1.1|Content-Length: 0|If-Match: *||
+BadField POST /proposals/12/explain HTTP/1.1|Content-Length: 0|If-Match: "0123456789abcdef0123456789abcdef0123456789abcdef0123456789abcdef"|If-Match: "0123456789abcdef0123456789abcdef0123456789abcdef0123456789abcdef"||
 0123456789abcdef0123456789abcdef0123456789abcdef0123456789abcdef POST /proposals/12/confirm HTTP/1.1|Content-Length: 0|if-match:  "0123456789abcdef0123456789abcdef0123456789abcdef0123456789abcdef"  ||
 BadField POST /proposals/12/confirm HTTP/1.1|Content-Length: 0|If-Match:||
 BadField POST /proposals/12/confirm HTTP/1.1|Content-Length: 0|If-Match: ""||

@@ -523,6 +523,7 @@ imported {"certificates":2,"components":3,"digests":1,"passed":18446744073709551
 proposed {"proposal":9,"reply":"proposed"}
 confirmed {"certificates":2,"components":3,"digests":1,"passed":18446744073709551615,"proposal":9,"reply":"confirmed"}
 dropped {"proposal":9,"reply":"dropped"}
+explained {"proposal":9,"reply":"explained"}
 "#;
 
 /// The reply of this name.
@@ -546,6 +547,7 @@ fn reply(name: &str, request: RequestNumber, proposal: ProposalNumber) -> Reply 
         "proposed" => Reply::Proposed(proposal),
         "confirmed" => Reply::Confirmed(Confirmation { proposal, counts }),
         "dropped" => Reply::Dropped(proposal),
+        "explained" => Reply::Explained(proposal),
         _ => Reply::Imported(counts),
     }
 }

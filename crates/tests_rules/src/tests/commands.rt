@@ -95,6 +95,14 @@ drop  1 = nothing
  drop 1 = nothing
 drop_ 1 = nothing
 dropp 1 = nothing
+explain 1 GRUB2 before 2.06 = read
+explain 999999 x = read
+explain 1 = nothing
+explain 1  = nothing
+explain 1  x = nothing
+explain 1 x  = nothing
+explain 01 x = nothing
+explain 1 \u{e9} = nothing
  = nothing
 nothing at all = nothing
 ";

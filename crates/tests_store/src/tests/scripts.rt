@@ -75,6 +75,14 @@ olga o3 drop 2 : dropped 2
 otto t2 drop 2 : ProposalClosed
 ann a1 drop 2 : NotYourRole
 otto t2 drop 3 : NoSuchProposal
+otto t2 explain 3 found : NoSuchProposal
+ann a1 explain 2 found : NotYourRole
+otto t6 explain 2 found : explained 2
+reopen
+otto t6 explain 2 found : explained 2
+otto t6 explain 1 found : KeyReused
+olga o10 explain 1 found : explained 1
+otto t2 drop 2 : ProposalClosed
 olga o4 revoke 187 : AlreadyRevoked
 olga o4 raise grub 3 2024010100 : proposed 3
 olga o5 raise grub 4 2024010101 : proposed 4

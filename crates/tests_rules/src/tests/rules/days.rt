@@ -194,6 +194,12 @@ verdict 160 160 1 204 0 : Allowed
 olga c1 confirm 1 : OwnProposal
 ann c1 confirm 1 : NotYourRole
 console c1 drop 1 : NotYourRole
+ann c1 explain 1 lost : NotYourRole
+console c1 explain 1 lost : NotYourRole
+olga e1 explain 1 lost : explained 1
+otto e1 explain 1 stolen : explained 1
+otto e2 explain 2 lost : NoSuchProposal
+olga c1 confirm 1 : OwnProposal
 otto c1 confirm 2 : NoSuchProposal
 otto c1 confirm 1 : confirmed 1 0 1 0 0
 otto c1 confirm 1 : again confirmed 1 0 1 0 0
@@ -216,6 +222,11 @@ olga c1 drop 3 : again dropped 3
 otto c3 confirm 3 : ProposalClosed
 olga c2 confirm 3 : ProposalClosed
 olga c2 drop 4 : NoSuchProposal
+olga e2 explain 3 twice : explained 3
+olga e2 explain 3 twice : again explained 3
+olga e2 explain 3 again : KeyReused
+otto e2 explain 2 found : explained 2
+otto c3 confirm 3 : ProposalClosed
 verdict 164 162 0 0 : DbxDigest
 ann b5 submit shim 162 163 0 0 : Revoked
 ";

@@ -43,6 +43,7 @@ verdict 34 34 0 2 shim 3 grub 4 : Sbat(Below { place: 1, needs: Generation(5) })
 verdict 34 34 0 2 shim 3 grub 5 : Allowed
 olga v12 confirm 1 : NoSuchProposal
 olga v12 drop 1 : NoSuchProposal
+olga v12 explain 1 lost : NoSuchProposal
 rita r1 confirm 1 : NotYourRole
 olga v12 unlist 34 : unlisted
 ann a2 submit shim 160 160 0 0 : submitted 1

@@ -29,6 +29,9 @@ const CALLS: &str = "\
 3 certificates 9999 components 9999 calls 999999 olga k confirm 4 : Full
 1 digests 100000 olga k confirm 10 : confirmed 10 0 0 0 0
 1 proposals 100000 olga k drop 1 : dropped 1
+2 proposals 100000 calls 999999 olga k explain 5 late : explained 5
+1 calls 1000000 olga k explain 5 late : Full
+1 calls 1000000 olga k explain 11 late : NoSuchProposal
 1 calls 1000000 olga k revoke 1 : Full
 1 calls 1000000 olga k confirm 1 : Full
 1 calls 1000000 olga k drop 1 : Full
