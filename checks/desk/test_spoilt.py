@@ -26,7 +26,7 @@ from checks.support.program import Program, Ran, copy_of, dump
 from checks.support.says import expect
 from checks.support.server import Server
 from checks.support.steps import (
-    confirms, lists, named, proposes, raising, returns, reviews, submits, takes, vote
+    confirms, lists, named, proposes, raising, reason, returns, reviews, submits, takes, vote
 )
 from checks.support.wire import wire
 
@@ -55,6 +55,7 @@ REVIEW = posted("rosa", "new", "/requests/2/review", vote("yes"))
 WITHDRAW = posted("rita", "new", "/requests/2/withdraw", b"")
 CONFIRM = posted("otto", "new", "/proposals/4/confirm", b"")
 DROP = posted("otto", "new", "/proposals/4/drop", b"")
+EXPLAIN = posted("otto", "new", "/proposals/4/explain", reason("lost"))
 SHOWN = [got("ann", "/requests"), got("ann", "/requests/1")]
 LISTING = posted("olga", "new", "/db/digests", named(BB))
 VERDICT = posted("ann", "unused", "/verdict", IMAGE)
@@ -77,7 +78,8 @@ EACH = [
     posted("olga", "new", "/level", raising("shim", 4, 2024010101)),
     posted("olga", "new", "/imports/dbx", digest_list([CC])),
     posted("olga", "new", "/imports/csv", CSV),
-    posted("olga", "new", "/imports/level", b"sbat,1,2024010101\nshim,4\n"), CONFIRM, DROP, VERDICT,
+    posted("olga", "new", "/imports/level", b"sbat,1,2024010101\nshim,4\n"), CONFIRM, DROP,
+    EXPLAIN, VERDICT,
     posted("ann", "unused", "/facts", IMAGE)
 ]
 # What `person` and `enrol` read.
@@ -124,7 +126,7 @@ ROWS = [
     ),
     Row(
         "UPDATE proposals SET kind = 'king' WHERE no = 4",
-        [CONFIRM, DROP, got("otto", "/proposals/4")], {"impact DB 4": b""}
+        [CONFIRM, DROP, EXPLAIN, got("otto", "/proposals/4")], {"impact DB 4": b""}
     ),
     Row(
         "UPDATE proposals SET state = 'closed' WHERE no = 4", [CONFIRM, got("otto", "/proposals")],

@@ -7,7 +7,7 @@ import struct
 from typing import Any, NamedTuple, Optional
 
 from checks.model.commands import (
-    Command, Confirm, Drop, ListEntry, Propose, Return, Review, Submit, Unlist, Withdraw
+    Command, Confirm, Drop, Explain, ListEntry, Propose, Return, Review, Submit, Unlist, Withdraw
 )
 from checks.model.facts import Refusal, facts_of, refuse_if, rows_of, tbs_of
 from checks.model.held import Entries
@@ -49,7 +49,7 @@ class Asked(NamedTuple):
 # The commands that name a request or a proposal.
 CONDITIONAL = [
     ("requests", "review"), ("requests", "withdraw"), ("requests", "return"),
-    ("proposals", "confirm"), ("proposals", "drop")
+    ("proposals", "confirm"), ("proposals", "drop"), ("proposals", "explain")
 ]
 
 
@@ -65,6 +65,9 @@ FORMS: dict[str, Any] = {
     "generation": lambda one: type(one) is int and 1 <= one <= 4_294_967_295,
     "kind": lambda one: one in ("digest", "certificate"),
     "note": lambda one: isinstance(one, str) and re.fullmatch("[ -~]{0,200}", one),
+    "text": lambda one: isinstance(one, str) and re.fullmatch("[ -~]{1,200}", one) and (
+        one == one.strip()
+    ),
     "stamp": lambda one: type(one) is int and 1_000_000_000 <= one <= 9_999_999_999,
     "vote": lambda one: one in ("yes", "no"),
 }
@@ -115,6 +118,8 @@ def command_of(asked: Asked) -> Command:
     if what == "proposals":
         chosen = numbered(number, "NoSuchProposal")
         asked.tag()
+        if part == "explain":
+            return Explain(chosen, *members(asked.body, "text"))
         return Confirm(chosen) if part == "confirm" else Drop(chosen)
     if what == "requests" and number is None:
         return Submit(facts_of(asked.body), asked.title)

@@ -135,18 +135,31 @@ class Chance(Parts):
             caller, "/imports/level", "\n".join([f"sbat,1,{self.stamp()},more", *rows, ""]).encode()
         )
 
-    def closing(self, what: str) -> Asked:
+    def proposed(self) -> str:
+        """The number of a proposal, mostly of an open one."""
         open_ones = [str(one.number) for one in self.desk.proposals if one.state == "open"]
-        number = self.one(open_ones) if open_ones and self.often(0.8) else self.number(
+        return self.one(open_ones) if open_ones and self.often(0.8) else self.number(
             len(self.desk.proposals)
         )
-        return self.post(self.caller("officer"), f"/proposals/{number}/{what}", b"")
+
+    def closing(self, what: str) -> Asked:
+        return self.post(self.caller("officer"), f"/proposals/{self.proposed()}/{what}", b"")
 
     def confirm(self) -> Asked:
         return self.closing("confirm")
 
     def drop(self) -> Asked:
         return self.closing("drop")
+
+    def explain(self) -> Asked:
+        """A proposal in any state; now and then no reason."""
+        number = self.proposed() if self.often(0.5) else self.number(len(self.desk.proposals))
+        reason = self.one(
+            ["", "lost ", "\u00e9", "x" * 201]
+        ) if self.often(0.1) else self.one(["lost", '"\\" of 2023', "x" * 200])
+        return self.post(
+            self.caller("officer"), f"/proposals/{number}/explain", said({"text": reason})
+        )
 
     # ---- If-Match
 
@@ -194,11 +207,7 @@ class Chance(Parts):
         return Asked(token(caller), "GET", path)
 
     def impact(self) -> Asked:
-        open_ones = [str(one.number) for one in self.desk.proposals if one.state == "open"]
-        number = self.one(open_ones) if open_ones and self.often(0.8) else self.number(
-            len(self.desk.proposals)
-        )
-        return self.get(self.caller("officer"), f"/proposals/{number}/impact")
+        return self.get(self.caller("officer"), f"/proposals/{self.proposed()}/impact")
 
     def read(self) -> Asked:
         caller = self.caller(*CALLERS)
@@ -225,7 +234,7 @@ class Chance(Parts):
             "list-digest": self.list_digest, "unlist": self.unlist,
             "revoke-digest": self.revoke_digest, "revoke-certificate": self.revoke_certificate,
             "raise": self.raise_level, "import": self.import_of, "confirm": self.confirm,
-            "drop": self.drop, "impact": self.impact, "read": self.read
+            "drop": self.drop, "explain": self.explain, "impact": self.impact, "read": self.read
         }
         asked = makes[kind]()
         return asked._replace(match=self.match(asked))

@@ -239,3 +239,20 @@ class Drop(Command):
     def applied(self, desk: Desk, caller: str) -> Reply:
         desk.proposal(self.number).state = "dropped"
         return replied("dropped", self.number, proposal=self.number)
+
+
+@dataclass
+class Explain(Command):
+    """It leaves its minute alone."""
+
+    number: int
+    reason: str
+
+    def text(self) -> str:
+        return f"explain {self.number} {self.reason}"
+
+    def refuses(self, desk: Desk, caller: str) -> None:
+        desk.proposal(self.number)
+
+    def applied(self, desk: Desk, caller: str) -> Reply:
+        return replied("explained", self.number, proposal=self.number)

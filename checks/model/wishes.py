@@ -15,7 +15,8 @@ ACCEPTED = {
     "submit": (330, 30), "review": (170, 60), "withdraw": (12, 8), "return": (30, 25),
     "list-certificate": (30, 15), "list-digest": (25, 15), "unlist": (15, 15),
     "revoke-digest": (30, 85), "revoke-certificate": (15, 45), "raise": (20, 60),
-    "import": (35, 85), "confirm": (35, 105), "drop": (12, 35)
+    "import": (35, 85), "confirm": (35, 105), "drop": (12, 35),
+    "explain": (15, 30)
 }
 # The refusals of If-Match.
 MATCH = ["BadField", "Mismatch"]
@@ -33,7 +34,8 @@ REFUSED = {
         "NoSuchProposal", *MATCH, "ProposalClosed", "OwnProposal", "AlreadyRevoked", "NotHigher",
         "StampNotLater"
     ],
-    "drop": ["NoSuchProposal", *MATCH, "ProposalClosed"]
+    "drop": ["NoSuchProposal", *MATCH, "ProposalClosed"],
+    "explain": ["NoSuchProposal", *MATCH, "BadBody"]
 }
 TIMES = 4
 # The route of each command, or its routes, and how often one that was accepted there is to be

@@ -117,6 +117,17 @@ def drops(name: str, key: str, number: int) -> Step:
     )
 
 
+def reason(text: str) -> bytes:
+    return said({"text": text})
+
+
+def explains(name: str, key: str, number: int, text: str) -> Step:
+    return takes(
+        name, key, f"/proposals/{number}/explain", reason(text),
+        {"proposal": number, "reply": "explained"}
+    )
+
+
 def closes(number: int, what: str, name: str, key: str, proposal: int | str) -> Step:
     """A Confirm or a Drop that is refused."""
     return refuses(number, name, key, f"/proposals/{proposal}/{what}", b"")

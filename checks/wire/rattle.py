@@ -15,6 +15,7 @@ LIMITS = {
     "entries": ("desk_texts/src/import.rt", "MOST_IMPORTED"),
     "title": ("desk_texts/src/forms.rt", "LONGEST_TITLE"),
     "note": ("desk_texts/src/forms.rt", "LONGEST_NOTE"),
+    "reason": ("desk_texts/src/forms.rt", "LONGEST_REASON"),
 }
 # Refusals of a request, one or more, and their status.
 ARM = re.compile(r"((?:[\s|]*Refused::\w+(?:\(\w+\))?)+) =>[\s{]*Status::(\w+)")

@@ -26,7 +26,7 @@ from checks.desk.stops.places import (
 from checks.support.images import OWNER, digest, digest_list
 from checks.support.says import expect
 from checks.support.steps import (
-    confirms, drops, lists, named, proposes, returns, reviews, submits, takes
+    confirms, drops, explains, lists, named, proposes, returns, reviews, submits, takes
 )
 from checks.support.tools import ran
 
@@ -102,7 +102,8 @@ COMMANDS = {
     "a confirmed digest": asks(confirms("otto", "k9", 1, 1, 0, 0, 0)),
     "a confirmed level": asks(confirms("otto", "k9", 2, 0, 0, 1, 0)),
     "a confirmed import": asks(confirms("otto", "k9", 3, 300, 0, 0, 0)),
-    "a dropped import": asks(drops("olga", "k9", 3))
+    "a dropped import": asks(drops("olga", "k9", 3)),
+    "a reason": asks(explains("olga", "k9", 3, "lost"))
 }
 
 
