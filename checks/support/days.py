@@ -10,9 +10,10 @@ from checks.support.inbox import INBOX
 from checks.support.largest import LARGEST
 from checks.support.looks import LOOKS, ODD
 from checks.support.messages import octets, ok, refused, text, token
+from checks.support.reasons import REASONS
 from checks.support.steps import (
-    Step, again, closes, confirms, drops, explains, grub, judges, lists, minutes, named, proposal,
-    proposes, raising, reads, reason, refuses, returns, reviews, shown, submits, takes, vote
+    Step, again, closes, confirms, drops, grub, judges, lists, named, proposal, proposes, raising,
+    reads, refuses, returns, reviews, shown, submits, takes, vote
 )
 from checks.support.tags import TAGS
 
@@ -227,46 +228,6 @@ TWO_PROPOSALS = [
     )
 ]
 
-# Officers say why, of proposals in every state; no state and no list changes by it.
-BECAUSE = "CVE-2023-40547, see https://example.org/15.8"
-REASONS = [
-    proposes("olga", "k1", "/dbx/digests", named(digest("aa")), 1),
-    explains("olga", "k2", 1, BECAUSE),
-    again(
-        "olga", "k2", "/proposals/1/explain", reason(BECAUSE),
-        {"proposal": 1, "reply": "explained"}
-    ),
-    refuses(22, "olga", "k2", "/proposals/1/explain", reason("another")),
-    refuses(52, "olga", "k3", "/proposals/1/explain", reason("a ")),
-    refuses(52, "olga", "k3", "/proposals/1/explain", reason("")),
-    refuses(21, "ann", "k1", "/proposals/1/explain", reason("a")),
-    refuses(37, "otto", "k1", "/proposals/2/explain", reason("a")),
-    explains("otto", "k1", 1, "~" * 200),
-    closes(38, "confirm", "olga", "k3", 1),
-    reads("ann", "/dbx", octets(b"")),
-    reads("otto", "/proposals", ok([proposal(1, "olga", "open", digests=1)])),
-    confirms("otto", "k2", 1, 1, 0, 0, 0),
-    explains("otto", "k3", 1, "a"),
-    proposes("olga", "k3", "/dbx/digests", named(digest("bb")), 2),
-    drops("otto", "k4", 2),
-    explains("olga", "k4", 2, "listed by mistake"),
-    reads("ann", "/dbx", octets(digest_list([digest("aa")]))),
-    reads(
-        "olga", "/minutes/9",
-        text(
-            minutes(
-                9, ("olga", "k2", f"explain 1 {BECAUSE}", "explained 1"),
-                ("otto", "k1", f"explain 1 {'~' * 200}", "explained 1"),
-                ("otto", "k2", "confirm 1", "confirmed 1 1 0 0 0"),
-                ("otto", "k3", "explain 1 a", "explained 1"),
-                ("olga", "k3", f"revoke-digest {digest('bb')}", "proposed 2"),
-                ("otto", "k4", "drop 2", "dropped 2"),
-                ("olga", "k4", "explain 2 listed by mistake", "explained 2")
-            )
-        )
-    )
-]
-
 # An entry off the list, digits of either case, a text of a level, keys and numbers at a Confirm,
 # and the report.
 REPORT = {
@@ -328,6 +289,6 @@ DAYS = {
     "reviews": REVIEWS, "returns": RETURNS, "revoked before": REVOKED_BEFORE, "padding": PADDING,
     "levels": LEVELS, "keys": KEYS, "lists": LISTS, "files": FILES,
     "raises nothing": RAISES_NOTHING, "two officers": TWO_OFFICERS,
-    "two proposals": TWO_PROPOSALS, "reasons": REASONS, "left over": LEFT_OVER, "looks": LOOKS, "tags": TAGS,
-    "inbox": INBOX, "first requests": FIRST_REQUESTS, "the largest": LARGEST,
+    "two proposals": TWO_PROPOSALS, "reasons": REASONS, "left over": LEFT_OVER, "looks": LOOKS,
+    "tags": TAGS, "inbox": INBOX, "first requests": FIRST_REQUESTS, "the largest": LARGEST,
 }
