@@ -140,7 +140,8 @@ Exit status:
   1  refused: 47 Minute, at the number of the first line that isn't that of the
      desk or what the rules give, or isn't whole; the lines before it are
      followed; 48 Owner, the desk in DB has another owner; 43 NotADesk, DB holds
-     no desk; 44 Version, it holds one of another version
+     no desk; 44 Version, it holds one of another version. Refused or not, a file
+     of version 1 is one of version 2 then
   2  an argument is missing or wrong
   3  a device failed: 45 File, DB or FILE can't be opened";
 

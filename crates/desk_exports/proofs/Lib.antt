@@ -1,3 +1,4 @@
+pub mod ChangeLemmas
 pub mod LengthLemmas
 pub mod ListPartLemmas
 pub mod MinuteLemmas

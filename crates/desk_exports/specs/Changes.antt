@@ -1,14 +1,17 @@
 -- A number that changes whenever what a person may see of requests or proposals changed.
-use Rattle.std.specs.Prelude.{ℕ, ◌+◌, List, [], ◌∷◌, length, Result}
+use Rattle.std.specs.Prelude.{◌≡◌, ℕ, ◌+◌, true, false, List, [], ◌∷◌, ◌++◌, length, Some, Result}
 use Rattle.std.specs.Result.{result_map_both}
 use Rattle.desk_bytes.specs.declared.refusal.Refusal.{Refusal}
 use Rattle.desk_texts.specs.declared.caller.Caller.{Caller}
+use Rattle.desk_texts.specs.declared.caller.Caller.TheVariants as callers
 use Rattle.desk_texts.specs.declared.command.Person.{Person}
+use Rattle.desk_texts.specs.declared.role.Role.{Role}
 use Rattle.desk_texts.specs.declared.role.Role.TheVariants as roles
 use Rattle.desk_texts.specs.declared.state.State.{State}
 use Rattle.desk_texts.specs.declared.state.State.TheVariants as states
 use Rattle.desk_history.specs.Calls.{History}
-use Rattle.desk_history.specs.Shown.{Whole, reader, requests_for}
+use Rattle.desk_history.specs.Runs.{is_legal}
+use Rattle.desk_history.specs.Shown.{TellAlike, Whole, reader, requests_for, role_of, sees}
 use Rattle.desk_exports.specs.Waiting.{or_nothing}
 
 -- own: what a request's state adds: 1 for a withdrawal, 2 for a returned file
@@ -42,3 +45,18 @@ changes cs ws p = elim p.role [
 -- the answer to a caller about the number
 abbrev pub changes_for : History → Caller → Result ℕ Refusal
 changes_for cs c = result_map_both (changes cs (requests_for cs c)) (λ refusal. refusal) (reader cs c)
+
+-- ---- laws
+
+-- While a submitter's number stays, a later history shows the submitter the same requests: whatever
+-- changes one of them, or adds one, makes the number greater.
+abbrev pub SubmittersNumbersTell : Type 0
+SubmittersNumbersTell =
+    (new cs : History) (name : List ℕ) → is_legal (new ++ cs) ≡ true → role_of cs name ≡ Some roles.Submitter → role_of (new ++ cs) name ≡ Some roles.Submitter
+    → changes_for (new ++ cs) (callers.Person name) ≡ changes_for cs (callers.Person name) → TellAlike (new ++ cs) cs (callers.Person name)
+
+-- While the number of anybody else stays, no call was accepted.
+abbrev pub OthersNumbersTell : Type 0
+OthersNumbersTell =
+    (new cs : History) (name : List ℕ) (role : Role) → sees role false ≡ true → role_of cs name ≡ Some role → role_of (new ++ cs) name ≡ Some role
+    → changes_for (new ++ cs) (callers.Person name) ≡ changes_for cs (callers.Person name) → new ≡ []

@@ -13,6 +13,7 @@ ghost use Rattle.desk_history.specs.Level.{generations, stamp};
 ghost use Rattle.desk_history.specs.Listing.{listed};
 ghost use Rattle.desk_history.specs.Revocations.{is_revoked, revocations};
 ghost use Rattle.desk_history.specs.Tables.{level_rows};
+ghost use Rattle.desk_exports.specs.Changes as change;
 ghost use Rattle.desk_exports.specs.Exports.{db, db_lists, dbx, dbx_lists, entries_of, level, level_components, revoked};
 ghost use Rattle.desk_exports.specs.Exports.{revoked_bodies, revoked_bodiless, shim, shim_lists};
 ghost use Rattle.desk_exports.specs.Laws as law;
@@ -110,6 +111,13 @@ pub fn waiting_is_written()
     ensures waits { waiting.TellsWaiting }
     ensures parts { waiting.TellsParts }
     ensures changes { waiting.TellsChanges }
+{}
+
+/// While the number that tells of changes stays, a later history shows a submitter the same requests,
+/// and to anybody else it is the same history.
+pub fn numbers_tell_of_changes()
+    ensures submitters { change.SubmittersNumbersTell }
+    ensures others { change.OthersNumbersTell }
 {}
 
 /// Exports of worked histories are those that were written by hand.
