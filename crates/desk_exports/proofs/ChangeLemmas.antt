@@ -1,7 +1,7 @@
 -- The number that tells of changes.
-use Rattle.std.proofs.Common.{◌≡◌, ℕ, zero, suc, ◌+◌, ◌≤◌, Bool, true, false, ◌||◌, cond, List, [], ◌∷◌, ◌++◌, map, filter, length, length-append, Option, Some, None, option_map, Result, Ok, Err, refl, sym, ap, subst, ◌∙◌, arith}
+use Rattle.std.proofs.Common.{◌≡◌, ℕ, suc, ◌+◌, ◌≤◌, Bool, true, false, ◌||◌, cond, List, [], ◌∷◌, ◌++◌, map, filter, length, length-append, Option, Some, None, option_map, Result, Ok, refl, sym, ap, ◌∙◌, arith}
 use Rattle.std.specs.Prelude.{◌==◌, bytes_eq, if◌then◌else◌, count_by, nat_le, not, ok_or, reverse}
-use Rattle.std.specs.List.{list_any}
+use Rattle.std.specs.List.{cons_option, list_any}
 use Rattle.std.specs.Result.{result_map_both}
 use Rattle.std.proofs.lemmas.List.{reverse-append}
 use Rattle.desk_bytes.specs.declared.refusal.Refusal.{Refusal}
@@ -11,6 +11,7 @@ use Rattle.desk_texts.specs.declared.caller.Caller.TheVariants as callers
 use Rattle.desk_texts.specs.declared.command.Command.{Command}
 use Rattle.desk_texts.specs.declared.command.Command.TheVariants as command
 use Rattle.desk_texts.specs.declared.command.Person.{Person}
+use Rattle.desk_texts.specs.declared.command.Submission.{Submission}
 use Rattle.desk_texts.specs.declared.facts.Facts.{Facts}
 use Rattle.desk_texts.specs.declared.role.Role.{Role}
 use Rattle.desk_texts.specs.declared.role.Role.TheVariants as roles
@@ -19,9 +20,9 @@ use Rattle.desk_texts.specs.declared.state.State.TheVariants as states
 use Rattle.desk_history.specs.Calls.{History, Item}
 use Rattle.desk_history.specs.People.{person}
 use Rattle.desk_history.specs.Refusals.{own_refusal, return_refusal}
-use Rattle.desk_history.specs.Requests.{Request, Returned, is_returned, is_withdrawn, is_yes, request, requests, state, state_by, submitted, votes, votes_on}
+use Rattle.desk_history.specs.Requests.{Request, Returned, is_returned, is_withdrawn, is_yes, numbered, request, requests, state_by, submission_of, submitted, votes, votes_on}
 use Rattle.desk_history.specs.Runs.{is_legal}
-use Rattle.desk_history.specs.Shown.{Whole, own, reader, returned, role_of, sees, shown_to, whole, wholes}
+use Rattle.desk_history.specs.Shown.{Whole, own, returned, role_of, sees, shown_to, whole}
 use Rattle.desk_history.specs.Verdicts.{is_barred, stands_in_db}
 use Rattle.desk_history.specs.declared.rows.VoteRow.{VoteRow}
 use Rattle.desk_history.proofs.ListLemmas.{number_is}
@@ -142,8 +143,8 @@ one_grows false old new olds news one all = all
 one_grows true old new olds news one all = record {
   more = omega (arith, one.more, all.more);
   still = λ e.
-    ap (λ w. w ∷ news) (one.still (omega (arith, one.more, all.more, e)))
-    ∙ ap (λ ws. old ∷ ws) (all.still (omega (arith, one.more, all.more, e)));
+      ap (λ w. w ∷ news) (one.still (omega (arith, one.more, all.more, e)))
+      ∙ ap (λ ws. old ∷ ws) (all.still (omega (arith, one.more, all.more, e)));
 }
 
 one_more : (b : Bool) (w : Whole) (olds news : List Whole) → AllGrow olds news → AllGrow olds (cond b (w ∷ news) news)
@@ -163,38 +164,28 @@ all_grow name cs next each (r ∷ rs) =
     one_grows (bytes_eq name r.submitter) (whole cs r) (whole next r) (filter (owns name) (map (whole cs) rs)) (filter (owns name) (map (whole next) rs))
     (each r) (all_grow name cs next each rs)
 
-one_call : (name : List ℕ) (cs : History) (old : Item) (given : Command) → own_refusal cs (caller_name old.call.caller) given ≡ None
-    → AllGrow (own cs name) (own (giving old given ∷ cs) name)
-one_call name cs old (command.Submit s) h =
-    let next = giving old (command.Submit s) ∷ cs in
-    let r : Request = record { number = length (submitted cs) + 1; submitter = caller_name old.call.caller; title = s.title; facts = s.facts } in
-    one_more (bytes_eq name r.submitter) (whole next r) (own cs name) (filter (owns name) (map (whole next) (requests cs)))
-    (all_grow name cs next (one_request cs old (command.Submit s) h) (requests cs))
-one_call name cs old (command.AddPerson p) h = all_grow name cs (giving old (command.AddPerson p) ∷ cs) (one_request cs old (command.AddPerson p) h) (requests cs)
-one_call name cs old (command.Review b) h = all_grow name cs (giving old (command.Review b) ∷ cs) (one_request cs old (command.Review b) h) (requests cs)
-one_call name cs old (command.Withdraw k) h = all_grow name cs (giving old (command.Withdraw k) ∷ cs) (one_request cs old (command.Withdraw k) h) (requests cs)
-one_call name cs old (command.Return f) h = all_grow name cs (giving old (command.Return f) ∷ cs) (one_request cs old (command.Return f) h) (requests cs)
-one_call name cs old (command.ListCertificate c) h = all_grow name cs (giving old (command.ListCertificate c) ∷ cs) (one_request cs old (command.ListCertificate c) h) (requests cs)
-one_call name cs old (command.ListDigest d) h = all_grow name cs (giving old (command.ListDigest d) ∷ cs) (one_request cs old (command.ListDigest d) h) (requests cs)
-one_call name cs old (command.Unlist l) h = all_grow name cs (giving old (command.Unlist l) ∷ cs) (one_request cs old (command.Unlist l) h) (requests cs)
-one_call name cs old (command.RevokeDigest d) h = all_grow name cs (giving old (command.RevokeDigest d) ∷ cs) (one_request cs old (command.RevokeDigest d) h) (requests cs)
-one_call name cs old (command.RevokeCertificate d) h = all_grow name cs (giving old (command.RevokeCertificate d) ∷ cs) (one_request cs old (command.RevokeCertificate d) h) (requests cs)
-one_call name cs old (command.RaiseLevel x) h = all_grow name cs (giving old (command.RaiseLevel x) ∷ cs) (one_request cs old (command.RaiseLevel x) h) (requests cs)
-one_call name cs old (command.ImportRevocations i) h = all_grow name cs (giving old (command.ImportRevocations i) ∷ cs) (one_request cs old (command.ImportRevocations i) h) (requests cs)
-one_call name cs old (command.Confirm k) h = all_grow name cs (giving old (command.Confirm k) ∷ cs) (one_request cs old (command.Confirm k) h) (requests cs)
-one_call name cs old (command.Drop k) h = all_grow name cs (giving old (command.Drop k) ∷ cs) (one_request cs old (command.Drop k) h) (requests cs)
-one_call name cs old (command.Explain x) h = all_grow name cs (giving old (command.Explain x) ∷ cs) (one_request cs old (command.Explain x) h) (requests cs)
+one_call : (name : List ℕ) (cs : History) (i : Item) → own_refusal cs (caller_name i.call.caller) i.call.command ≡ None → AllGrow (own cs name) (own (i ∷ cs) name)
+one_call name cs i h =
+    let next = i ∷ cs in
+    let all = all_grow name cs next (one_request cs i i.call.command h) (requests cs) in
+    elim (submission_of i.call.command) as (λ o. AllGrow (own cs name)
+    (filter (owns name) (map (whole next) (numbered (cons_option (option_map (λ (s : Submission). record { submitter = caller_name i.call.caller; submission = s }) o) (submitted cs)))))) [
+      | Some s ↦ (
+          let r : Request = record { number = length (submitted cs) + 1; submitter = caller_name i.call.caller; title = s.title; facts = s.facts } in
+          one_more (owns name (whole next r)) (whole next r) (own cs name) (filter (owns name) (map (whole next) (requests cs))) all)
+      | None ↦ all
+    ]
 
 later : (name : List ℕ) (new cs : History) → is_legal (new ++ cs) ≡ true → AllGrow (own cs name) (own (new ++ cs) name)
 later name [] cs legal = all_same (own cs name)
 later name (i ∷ new) cs legal =
     let here = newest (new ++ cs) i legal in
-    then_grow (own cs name) (own (new ++ cs) name) (own (i ∷ new ++ cs) name) (later name new cs here.before) (one_call name (new ++ cs) i i.call.command here.new.own)
+    then_grow (own cs name) (own (new ++ cs) name) (own (i ∷ new ++ cs) name) (later name new cs here.before) (one_call name (new ++ cs) i here.new.own)
 
 -- ---- numbers
 
 events-append : (xs ys : List Whole) → events (xs ++ ys) ≡ events xs + events ys
-events-append [] ys = refl
+events-append [] ys = omega arith
 events-append (x ∷ xs) ys = (let rest = events-append xs ys in omega (arith, rest))
 
 events-reverse : (ws : List Whole) → events (reverse ws) ≡ events ws
@@ -208,19 +199,19 @@ ok_same : {X : Type 0} (x y : X) → ◌≡◌ {A = Result X Refusal} (Ok x) (Ok
 ok_same x y e = cc
 
 -- the number for this person
-numbered : (cs : History) (name : List ℕ) (role : Role) → role_of cs name ≡ Some role
+the_number : (cs : History) (name : List ℕ) (role : Role) → role_of cs name ≡ Some role
     → (n : ℕ) → ((p : Person) → p.role ≡ role → changes cs (result_map_both reverse (λ (refusal : Refusal). refusal) (shown_to cs (callers.Person name))) p ≡ n)
     → changes_for cs (callers.Person name) ≡ Ok n
-numbered cs name role is n each =
+the_number cs name role is n each =
     elim (person cs name) as (λ o. option_map (λ (p : Person). p.role) o ≡ Some role
-      → result_map_both (changes cs (result_map_both reverse (λ (refusal : Refusal). refusal) (shown_to cs (callers.Person name)))) (λ (refusal : Refusal). refusal) (ok_or o refusals.UnknownCaller) ≡ Ok n) [
+    → result_map_both (changes cs (result_map_both reverse (λ (refusal : Refusal). refusal) (shown_to cs (callers.Person name)))) (λ (refusal : Refusal). refusal) (ok_or o refusals.UnknownCaller) ≡ Ok n) [
       | Some p ↦ λ h. (let its : p.role ≡ role = cc in ap Ok (each p its))
       | None ↦ λ h. absurd cc
     ] is
 
 submitters_number : (cs : History) (name : List ℕ) → role_of cs name ≡ Some roles.Submitter → changes_for cs (callers.Person name) ≡ Ok (events (own cs name))
 submitters_number cs name is =
-    numbered cs name roles.Submitter is (events (own cs name)) (λ p its. rw its (rw (shown_own cs name is) (events-reverse (own cs name))))
+    the_number cs name roles.Submitter is (events (own cs name)) (λ p its. rw its (rw (shown_own cs name is) (events-reverse (own cs name))))
 
 pub submitters_numbers_tell : SubmittersNumbersTell
 submitters_numbers_tell new cs name legal before after e =
@@ -233,9 +224,9 @@ none_new (i ∷ new) cs e = (let more = length-append new cs in absurd (omega (a
 
 others_number : (cs : History) (name : List ℕ) (role : Role) → sees role false ≡ true → role_of cs name ≡ Some role → changes_for cs (callers.Person name) ≡ Ok (length cs)
 others_number cs name roles.Submitter h is = clash (sym h)
-others_number cs name roles.Reviewer h is = numbered cs name roles.Reviewer is (length cs) (λ p its. rw its refl)
-others_number cs name roles.Officer h is = numbered cs name roles.Officer is (length cs) (λ p its. rw its refl)
-others_number cs name roles.Signer h is = numbered cs name roles.Signer is (length cs) (λ p its. rw its refl)
+others_number cs name roles.Reviewer h is = the_number cs name roles.Reviewer is (length cs) (λ p its. rw its refl)
+others_number cs name roles.Officer h is = the_number cs name roles.Officer is (length cs) (λ p its. rw its refl)
+others_number cs name roles.Signer h is = the_number cs name roles.Signer is (length cs) (λ p its. rw its refl)
 
 pub others_numbers_tell : OthersNumbersTell
 others_numbers_tell new cs name role h before after e =

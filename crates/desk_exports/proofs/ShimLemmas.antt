@@ -8,10 +8,10 @@ use Rattle.std.proofs.lemmas.List.Sorted.{IsPermutation-reverse, list_any-IsPerm
 use Rattle.std.proofs.lemmas.Slice.Eq.{bytes_eq-Decides}
 use Rattle.desk_texts.specs.Certificates.{WholeCertificate}
 use Rattle.desk_texts.specs.declared.kind.ListedKind.TheVariants as kinds
-use Rattle.desk_history.specs.Calls.{History, distinct, is_among}
+use Rattle.desk_history.specs.Calls.{distinct, is_among}
 use Rattle.desk_history.specs.Revocations.{is_revoked}
 use Rattle.desk_history.proofs.ListLemmas.{any_once, number_above, same_text}
-use Rattle.desk_exports.specs.Bodies.{bodies_of, certificates_given, is_bodiless}
+use Rattle.desk_exports.specs.Bodies.{certificates_given, is_bodiless}
 use Rattle.desk_exports.specs.Exports.{revoked}
 use Rattle.desk_exports.specs.Laws.{ShimHasBodies, ShimHasOne, ShimHasOthers}
 use Rattle.desk_exports.proofs.OrderLemmas.{all_revoked}
