@@ -196,7 +196,7 @@ ann c1 confirm 1 : NotYourRole
 console c1 drop 1 : NotYourRole
 ann c1 explain 1 lost : NotYourRole
 console c1 explain 1 lost : NotYourRole
-olga e1 explain 1 lost : explained 1
+olga x1 explain 1 lost : explained 1
 otto e1 explain 1 stolen : explained 1
 otto e2 explain 2 lost : NoSuchProposal
 olga c1 confirm 1 : OwnProposal
