@@ -1,4 +1,5 @@
 //! The subcommands that the words name, with the values that they spell.
+use crate::causes::{Opened, opened_by};
 use crate::alone::{facts_of, list_in, pack_input, ranges_of};
 use crate::line::{AuditWords, FollowWords, PersonWords, ServeWords, Words, WordsFault};
 use crate::telling::{MISUSED, tell_fault, tell_stop};
@@ -228,17 +229,19 @@ impl Drop for Given {
     }
 }
 
-/// Reads the words after the program's name, and their values. A subcommand that needs no desk is
-/// done. Err: the program ends with this status, and what there was to tell was told.
-pub fn read_job<'a>(rt: &HostRuntime, given: &'a Given) -> Result<Job<'a>, u8> {
+/// Reads the words after the program's name, and their values: the job, and the files that it opens.
+/// A subcommand that needs no desk is done. Err: the program ends with this status, and what there
+/// was to tell was told.
+pub fn read_job<'a>(rt: &HostRuntime, given: &'a Given) -> Result<(Job<'a>, Opened<'a>), u8> {
     let line = match words(rt.alloc(), given.words.as_slice()) {
         Ok(line) => line,
         Err(fault) => return Err(tell_unread(rt, fault)),
     };
+    let opened = opened_by(line);
     match job_of(rt, line) {
-        Ok(Some(job)) => Ok(job),
+        Ok(Some(job)) => Ok((job, opened)),
         Ok(None) => Err(0),
-        Err(why) => Err(tell_stop(rt, why)),
+        Err(why) => Err(tell_stop(rt, why, opened)),
     }
 }
 

@@ -2,12 +2,14 @@
 #![tactic(auto)]
 
 mod alone;
+mod causes;
 mod jobs;
 mod line;
 mod telling;
 mod values;
 mod words_reading;
 
+pub use causes::Opened;
 pub use jobs::{Given, Job, given_words, read_job};
 pub use line::{AuditWords, FollowWords, PersonWords, ServeWords, Words, WordsFault};
 pub use telling::tell_ending;

@@ -30,7 +30,7 @@ fn main(rt: HostRuntime) -> ExitCode {
         Err(status) => return ExitCode::from(status),
     };
     match read_job(&rt, &given) {
-        Ok(job) => ExitCode::from(tell_ending(&rt, run(&rt, job))),
+        Ok((job, opened)) => ExitCode::from(tell_ending(&rt, run(&rt, job), opened)),
         Err(status) => ExitCode::from(status),
     }
 }
