@@ -8,9 +8,10 @@ from pathlib import Path
 
 import pytest
 
+from checks.conftest import NewDesk
 from checks.support.images import OWNER, SHA256_KIND, STORED, sha256, signature_list
 from checks.support.messages import token
-from checks.support.program import Program
+from checks.support.program import Program, Ran
 from checks.support.says import expect
 from checks.support.server import Server
 from checks.support.tools import EXAMPLES
@@ -81,6 +82,26 @@ def test_files_past_134_217_728_bytes_and_lines_past_8_mib_are_refused(desk: Pro
     desk.ends(1, b"", b"refused 15 List at 0\n", "list", long)
     given = b"no image".ljust(8_388_609, b"\0")
     desk.ends(1, b"", TOO_LONG, "pack", OWNER, given=given)
+
+
+def test_why_a_file_was_not_opened_is_told(desk: Program, new_desk: NewDesk) -> None:
+    path, missing, text = new_desk(), desk.at("missing"), desk.file("text", b"no database")
+    held = "another program has it open, or it is no SQLite database"
+    for file, cause, *words in (
+        (missing, "no such file", "dbx", missing),
+        (missing, "no such file", "facts", missing),
+        (missing, "no such file", "verdict", path, missing),
+        (missing, "no such file", "follow", desk.at("new.db"), OWNER, missing),
+        (f"{missing}/new.db", "it can't be made there", "init", f"{missing}/new.db", OWNER),
+        (f"{text}/below", "no such file", "list", f"{text}/below"),
+        (str(desk.room), "a folder", "level", str(desk.room)),
+        (text, held, "minutes", text),
+    ):
+        told = f"device 45 File\n{file}: {cause}\n".encode()
+        expect(desk.run(*words), Ran(3, b"", told), " ".join(words))
+    with Server(desk, path):
+        told = f"device 45 File\n{path}: {held}\n".encode()
+        expect(desk.run("level", path), Ran(3, b"", told), "of a served desk")
 
 
 def there(room: Path) -> set[str]:

@@ -43,6 +43,19 @@ def told(exports: Mapping[str, bytes]) -> bytes:
     return "".join(f"{one}\n" for one in lines).encode()
 
 
+UNOPENED = b"device 45 File\n"
+CAUSES = (
+    "no such file", "a folder", "no regular file", "no permission", "it can't be made there",
+    "another program has it open, or it is no SQLite database",
+)
+
+
+def without_cause(err: bytes, words: tuple[str | Path, ...]) -> bytes:
+    """UNOPENED, where a line follows it with one of the words and a cause; else what was told."""
+    due = {f"{word}: {cause}\n".encode() for word in words for cause in CAUSES}
+    return UNOPENED if err.startswith(UNOPENED) and err[len(UNOPENED):] in due else err
+
+
 class Program:
     """The program, and a folder of a test's own."""
 
@@ -92,8 +105,11 @@ class Program:
         self, status: int, out: bytes, err: bytes, *words: str | Path, given: bytes | Path = b"",
         what: str = "",
     ) -> None:
-        """A run ends with this status and has written this to both outputs."""
+        """A run ends with this status and has written this to both outputs; behind `device 45 File`
+        also a line with the file and the cause."""
         found = self.run(*words, given=given)
+        if err == UNOPENED:
+            found = found._replace(err=without_cause(found.err, words))
         expect(found, Ran(status, out, err), f"{what}desk {' '.join(map(str, words))}")
 
     def gives(self, *words: str | Path, given: bytes = b"", status: int = 0) -> bytes:

@@ -45,7 +45,7 @@ def is_made(left: Files, least: bool, tables: str, what: str) -> None:
         if ran.answers != [b""] or (found.status, found.err) != (1, b"refused 46 Exists\n"):
             raise Broken(f"{what}: minutes {ran.answers[0]!r}, and init again: {found.err!r}")
         place().gives(found.written, ("minutes", DESK))
-    elif least or ran.err not in (b"refused 43 NotADesk\n", b"device 45 File\n"):
+    elif least or not ran.err.startswith((b"refused 43 NotADesk\n", b"device 45 File\n")):
         raise Broken(f"{what}: neither a desk nor none: {ran.err!r}")
     else:
         made = place().run(left, init)

@@ -94,10 +94,10 @@ fn cause(rt: &HostRuntime, path: &str, written: bool) -> Option<&'static str> {
     }
 }
 
-/// The same of a desk's file, which another program may have locked.
+/// The same of a desk's file. Where it can be opened, a lock or its bytes may have kept it shut.
 fn desk_cause(rt: &HostRuntime, db: &str, makes: bool) -> &'static str {
     match cause(rt, db, true) {
-        None => "another program has it open",
+        None => "another program has it open, or it is no SQLite database",
         Some("no such file") if makes => "it can't be made there",
         Some(cause) => cause,
     }
