@@ -8,7 +8,7 @@ from typing import NamedTuple
 import pytest
 
 from checks.support.deskctl import Office
-from checks.support.images import PLAIN, authenticode, changed, digest, sha256
+from checks.support.images import PLAIN, authenticode, changed, digest, digest_list, sha256
 from checks.support.says import expect, fail
 from checks.support.wire import wire
 
@@ -34,6 +34,7 @@ ASKED = [
     Asked("return", "carried", "sid", "return 1 signed.efi"),
     Asked("drop", "plain", "otto", "drop 2"),
     Asked("unlist", "typed", "olga", f"unlist digest {digest('ee')}", "eeeeeeee"),
+    Asked("import", "name", "olga", "import db.esl"),
     # (in deskctl's own words)
     Asked("propose", "", "olga", f"revoke --digest {sha256(PLAIN)}"),
 ]
@@ -51,6 +52,7 @@ def image(number: int) -> bytes:
 def busy(office: Office) -> Office:
     """An approved request, one with a yes, one that is barred, two open ones; a listed digest, an
     open proposal."""
+    office.file("db.esl", digest_list([digest("77")]))
     for number in (2, 3, 4, 5):
         office.file(f"{number}.efi", image(number))
     for name in ("plain", "2", "3", "4", "5"):
