@@ -85,7 +85,7 @@ def test_the_update_before_may_be_some_publications_ago(signed: Place) -> None:
 
 def test_an_update_of_the_same_second_is_of_the_same_list(signed: Place) -> None:
     """Firmware takes no other one: its time isn't later."""
-    was = efi_time((signed.link / "dbx.auth").read_bytes())
+    was = efi_time((signed.link / "db.auth").read_bytes())
     words = ("--sign", dated(signed, "same", f"-t '{was}'"))
     signed.proposes("olga", "/dbx/digests", named(number(9)))
     signed.publish(0, "calls 12: published", *words)
