@@ -9,7 +9,7 @@ import pytest
 from checks.support.between import Between, shown
 from checks.support.client_day import BOTH, ODD
 from checks.support.deskctl import Office
-from checks.support.images import PLAIN, authenticode
+from checks.support.images import PLAIN, authenticode, digest
 from checks.support.messages import posted, refused
 from checks.support.says import expect
 from checks.support.steps import named, vote
@@ -84,6 +84,14 @@ def test_a_terminal_of_80_columns_has_it(filled: Office) -> None:
         "Nothing waits for you.", "Yours under way: 1",
         "PROPOSAL  NAMES                     BY    AGE",
         "2         2 digests, 1 certificate  olga  -"]), "an officer whose proposal is open")
+
+
+def test_a_terminal_says_what_one_entry_is(filled: Office) -> None:
+    filled["olga"].does(f"revoke --digest {digest('77')}", "proposal 3")
+    line = "3         digest 77777777.., which newly bars no known image  olga  0 minutes"
+    for name in ("olga", "otto"):
+        assert line in filled[name].asked("inbox", size=(24, 120))[1].splitlines(), name
+    expect(seen(filled, "otto")[1], "waits proposal 3 1 digest|olga|0 minutes", "without one")
 
 
 def test_a_proposals_age_is_by_the_time_in_its_key() -> None:

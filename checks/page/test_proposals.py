@@ -45,8 +45,10 @@ def test_the_list_says_what_is_proposed_how_old_and_whose(browser: Browser, site
     level = {"component": "grub", "generation": 4, "stamp": 2026112701}
     site.does("olga", "/level", level)
     browser.sign_in(token("olga"))
-    browser.go("proposals")
     words = f"digest {image[:8]}.. of {TITLE}, request 1, not allowed today"
+    # (the first view has them, too)
+    browser.sees("Waits for you", words, "grub to 4")
+    browser.go("proposals")
     browser.sees(words, "grub to 4")
     expect(len(rows(browser)), 2, "the rows")
     browser.press("Not mine")

@@ -2,7 +2,7 @@
 
 import { get } from './api.js';
 import { listed } from './lists.js';
-import { called } from './standing.js';
+import { called, standing } from './standing.js';
 import { wire } from '../formats/wire.js';
 import { filled, someOf } from '../formats/words.js';
 
@@ -12,6 +12,9 @@ import { filled, someOf } from '../formats/words.js';
 /** @typedef {import('./standing.js').Standing} Standing */
 /** @typedef {import('./doubts.js').Doubt} Doubt */
 /** @typedef {Pick<import('./doubts.js').Named, 'digests' | 'certificates' | 'components'>} Named */
+
+/** Of so many open ones in a list it is read what they name. */
+export const DESCRIBED = 50;
 
 /** @param {string} kind @param {string} hex */
 const hashWords = (kind, hex) => filled(wire.words.names.hash, { kind, hex: hex.slice(0, 8) });
@@ -94,4 +97,19 @@ export async function described({ number, state, digests, certificates, componen
     const impact = digests > 0 ? await get(`/proposals/${number}/impact`) : null;
     if (one.kind !== 'value') return '';
     return namesWords(one.value, now, impact?.kind === 'value' ? impact.value.bars : null);
+}
+
+// What the first open ones of a list name, by their numbers.
+/** @param {ProposalRow[]} rows @returns {Promise<Map<number, string>>} */
+export async function namesOf(rows) {
+    const first = rows.filter(({ state, digests, certificates, components }) => (
+        state === 'open' && digests + certificates + components === 1
+    ));
+    const now = first.length > 0 ? await standing() : null;
+    /** @type {Map<number, string>} */
+    const found = new Map();
+    for (const row of now?.kind === 'value' ? first.slice(0, DESCRIBED) : []) {
+        if (now?.kind === 'value') found.set(row.number, await described(row, now.value));
+    }
+    return found;
 }

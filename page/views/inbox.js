@@ -6,6 +6,7 @@ import { fill, h, heading, p, quiet } from './dom.js';
 import { named } from './impact.js';
 import { badge, barredBadge, proposalLink, requestLink } from './marks.js';
 import { keepingFocus, paged } from './table.js';
+import { namesOf } from '../desk/proposals.js';
 import { ownProposals, times } from '../desk/proposed.js';
 import { me, withYou } from '../desk/session.js';
 import { barredBy, standing } from '../desk/standing.js';
@@ -18,9 +19,10 @@ import { ageWords, counted, voteWords } from '../formats/words.js';
 /** @typedef {import('../desk/standing.js').Standing} Standing */
 
 /**
- * What is known besides: the lists of today, an officer's own open proposals, and when proposals
- * were made.
- * @typedef {{ now: Standing | null, own: ProposalRow[] | null, times: Map<number, string> }} Beside
+ * What is known besides: the lists of today, an officer's own open proposals, when proposals were
+ * made, and what they name.
+ * @typedef {{ now: Standing | null, own: ProposalRow[] | null, times: Map<number, string>,
+ *   names: Map<number, string> }} Beside
  */
 
 /** @param {HTMLElement} place */
@@ -31,7 +33,7 @@ export function inboxView(place) {
     const lists = h('div', {});
     place.append(told, lists);
     /** @type {Beside} */
-    const beside = { now: null, own: null, times: new Map() };
+    const beside = { now: null, own: null, times: new Map(), names: new Map() };
     const parts = partsOf(beside);
     const show = () => {
         const all = inbox();
@@ -50,6 +52,9 @@ export function inboxView(place) {
         const some = all.requests.length + all.changed.length + all.under.length > 0;
         const now = some ? await standing() : null;
         if (now?.kind === 'value') beside.now = now.value;
+        if (place.isConnected) show();
+        if (all.proposals.length === 0 && !beside.own) return;
+        beside.names = await namesOf([...all.proposals, ...(beside.own ?? [])]);
         if (place.isConnected) show();
     };
     const end = listen(() => {
@@ -140,12 +145,16 @@ function proposalTable(caption, empty, beside) {
         kind: 'wide queue',
         head: ['No', 'It names', 'By', 'Proposed'],
         empty,
-        row: (/** @type {ProposalRow} */ proposal) => [
-            ['number', proposal.number],
-            ['title', proposalLink(proposal.number, named(proposal))],
-            ['from', withYou(proposal.officer)],
-            ['from', ageWords(beside.times.get(proposal.number) ?? '')],
-        ],
+        row: (/** @type {ProposalRow} */ proposal) => {
+            const { number, officer } = proposal;
+            const names = beside.names.get(number) || named(proposal);
+            return [
+                ['number', number],
+                ['title', proposalLink(number, names)],
+                ['from', withYou(officer)],
+                ['from', ageWords(beside.times.get(number) ?? '')],
+            ];
+        },
     });
 }
 

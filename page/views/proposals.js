@@ -6,7 +6,7 @@ import { named } from './impact.js';
 import { badge, proposalLink } from './marks.js';
 import { choices, paged } from './table.js';
 import { listed } from '../desk/lists.js';
-import { described } from '../desk/proposals.js';
+import { DESCRIBED, described } from '../desk/proposals.js';
 import { ownProposals, times } from '../desk/proposed.js';
 import { proposalMatches } from '../desk/search.js';
 import { me, withYou } from '../desk/session.js';
@@ -16,9 +16,6 @@ import { wire } from '../formats/wire.js';
 import { ageWords, counted, stateChoices, stateCounts } from '../formats/words.js';
 
 /** @typedef {import('../desk/types.js').ProposalRow} ProposalRow */
-
-/** Of so many open ones it is read what they name. */
-const DESCRIBED = 50;
 
 /** @param {HTMLElement} place */
 export function proposalsView(place) {

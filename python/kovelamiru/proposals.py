@@ -8,11 +8,13 @@ from .described import WORDS
 from .desk import Desk
 from .faults import Refused
 from .questions import QUESTIONS
-from .standing import Standing
+from .standing import Standing, standing_of
 from .words import kinds, printable, some_of
 
 Components = Sequence[Sequence[Any]]
 NAMES: dict[str, str] = WORDS["names"]
+# Of so many open ones in a list it is read what they name.
+DESCRIBED = 50
 
 
 def open_proposals(desk: Desk, digests: Collection[str], certificates: Collection[str],
@@ -95,3 +97,10 @@ def described(desk: Desk, row: Counts, now: Standing) -> str:
     except Refused:
         found = None
     return names_words(one, now, shaped(Impact, found).bars if found else None)
+
+
+def names_of(desk: Desk, rows: Sequence[Counts]) -> dict[int, str]:
+    """What the first open ones of a list name, by their numbers."""
+    first = [row for row in rows if row.state == "open" and sum(row.named().values()) == 1]
+    now = standing_of(desk) if first else Standing()
+    return {row.number: described(desk, row, now) for row in first[:DESCRIBED]}

@@ -4,7 +4,7 @@ from __future__ import annotations
 from typing import Mapping, Sequence
 
 from ..answers import Counts, Me, Request, caller_of, shaped
-from ..proposals import counts_words
+from ..proposals import counts_words, names_of
 from ..standing import barred_by, revoked_of
 from ..waiting import ages_of, own_proposals, waiting_of, yes_words
 from .run import Run
@@ -23,10 +23,11 @@ def request_rows(run: Run, requests: Sequence[Request]) -> Rows:
              "barred" if now and barred_by(now, one) else "-") for one in requests]
 
 
-def proposal_rows(proposals: Sequence[Counts], ages: Mapping[int, str]) -> Rows:
+def proposal_rows(proposals: Sequence[Counts], ages: Mapping[int, str],
+                  names: Mapping[int, str]) -> Rows:
     """Each proposal with what it names, and its age."""
-    return [(one.number, counts_words(one), one.officer, ages.get(one.number, "-"))
-            for one in proposals]
+    return [(one.number, names.get(one.number) or counts_words(one), one.officer,
+             ages.get(one.number, "-")) for one in proposals]
 
 
 def section(run: Run, title: str, heads: Sequence[str], rows: Rows) -> None:
@@ -57,9 +58,10 @@ def inbox(run: Run) -> None:
 
 def officers(run: Run, others: Sequence[Counts], own: Sequence[Counts]) -> None:
     ages = ages_of(run.desk) if others or own else {}
+    names = names_of(run.desk, [*others, *own]) if run.terminal.wide else {}
     heads = ("PROPOSAL", "NAMES", "BY", "AGE")
-    section(run, WAITS, heads, proposal_rows(others, ages))
-    section(run, OWN, heads, proposal_rows(own, ages))
+    section(run, WAITS, heads, proposal_rows(others, ages, names))
+    section(run, OWN, heads, proposal_rows(own, ages, names))
 
 
 def requesters(run: Run, me: Me, requests: Sequence[Request]) -> None:

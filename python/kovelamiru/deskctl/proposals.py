@@ -9,7 +9,7 @@ from ..described import WORDS
 from ..doubts import Known, known, level_doubts
 from ..faults import REFUSED, Refused, Stop, wrong
 from ..http import Call
-from ..proposals import counts_words, described
+from ..proposals import DESCRIBED, counts_words, described
 from ..questions import plain_question, rule_words
 from ..search import proposal_matches
 from ..standing import level_of, standing_of
@@ -26,10 +26,6 @@ ALL = List("/proposals", "officer", proposal_matches, "of this number or officer
 def proposal_row(value: dict[str, Any]) -> tuple[object, ...]:
     one = shaped(Counts, value)
     return one.number, one.state, one.digests, one.certificates, one.components, one.officer
-
-
-# Of so many open ones it is read what they name.
-DESCRIBED = 50
 
 
 def row_at_a_terminal(run: Run) -> Callable[[dict[str, Any]], tuple[object, ...]]:
