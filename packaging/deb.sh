@@ -75,7 +75,7 @@ done
 for runbook in "$here"/runbooks/*.md; do
     place 644 "$runbook" "usr/share/doc/$name/runbooks/${runbook##*/}"
 done
-for page in AUDIT INTEROPERATION WALKTHROUGH; do
+for page in AUDIT INTEROPERATION TOOLS WALKTHROUGH; do
     place 644 "$root/docs/$page.md" "usr/share/doc/$name/$page.md"
 done
 # The programs in Python and their package; each finds it by the path of the link.
