@@ -58,7 +58,7 @@ packed() { gzip -9n "$1"; }
 
 place 755 "$program" usr/bin/desk
 place 755 "$here/may-serve" "usr/lib/$name/may-serve"
-for unit in desk.service peer.service publish.service publish.timer standby.service standby.timer \
+for unit in desk.service fence.service fence.timer peer.service publish.service publish.timer standby.service standby.timer \
     mirror.service mirror.timer; do
     place 644 "$here/kovelamiru-$unit" "usr/lib/systemd/system/kovelamiru-$unit"
 done

@@ -129,6 +129,18 @@ def test_of_two_that_begin_at_once_one_serves(old: Half, new: Half, at: str) -> 
     assert old.serves != new.serves, began
 
 
+def test_a_desk_that_serves_is_fenced_once_another_one_is_promoted(old: Half, new: Half) -> None:
+    """Not while the other one has a lower term, or doesn't answer; also where it was only seen."""
+    with served(new.shows) as (url, _):
+        assert [old.asks("fenced", one) for one in (url, NOBODY)] == [(1, "")] * 2
+        new.term(2)
+        says = f"term 1: {url} has been promoted to 2, so this machine's desk stops"
+        old.ended("fenced", url, 0, says)
+    old.ended("fenced", NOBODY, 0, "has been promoted to 2")
+    with served(old.shows) as (url, _):
+        assert new.asks("fenced", url) == (1, "")
+
+
 CONDITION = """\
 #!/bin/sh
 case "$*" in

@@ -9,6 +9,7 @@ from typing import Iterator
 
 import pytest
 
+from checks.publish.place import made_key
 from checks.support.between import NO_ANSWER, Between, received
 from checks.support.deskctl import Person
 from checks.support.halves import Machine
@@ -110,6 +111,7 @@ class Evening:
         self.old.site.start()
         self.old.begins(self.new, 1, "has 2, and this machine 1: the other one has been promoted")
         assert not self.old.serves
+        self.old.ended("fenced", self.new.url, 0, "has been promoted to 2, so this machine's desk")
         self.publishes(self.name.url, 0, "nothing new")
         with Server(self.desk, str(self.old.db)) as served:
             self.old.site.desk_port = served.port
@@ -127,16 +129,24 @@ class Evening:
         self.publishes(self.name.url, 0, "published")
 
     def stands_by(self) -> None:
-        """The old machine follows the new one, from nothing."""
+        """The old machine follows the new one, from nothing, and witnesses what is published."""
         for path in self.old.room.glob("desk.db*"):
             path.rename(self.desk.room / f"before-{path.name}")
         self.old.term(0)
-        self.old.follows(self.name.url)
+        statement, room = self.old.room / "witness", self.desk.room
+        statement.mkdir()
+        key = made_key(room, "signs")
+        self.old.follows(self.name.url, more=("--sign", room / "signs", "--statement", statement))
         self.old.begins(self.new, 1, "this machine is a standby")
+        witnesses = self.desk.file(
+            "witnesses", f"old {self.old.url}/witness/checkpoint.txt {key}\n".encode())
+        self.published = room / "witnessed"
+        self.publishes(self.name.url, 0, "published", "--first", "--witnesses", witnesses)
+        assert (self.published / "checkpoint.txt.old.sig").exists()
 
 
 @pytest.mark.long(40)
-@pytest.mark.needs("nginx")
+@pytest.mark.needs("nginx", "ssh-keygen")
 def test_nothing_is_acknowledged_twice(old: Machine, new: Machine, name: Name) -> None:
     evening = Evening(old, new, name)
     evening.works()

@@ -19,7 +19,7 @@ from checks.support.tools import ROOT, end_with_parent, ran
 from checks.support.waits import until
 
 UNITS = "usr/lib/systemd/system"
-TIMED = ("kovelamiru-mirror", "kovelamiru-publish", "kovelamiru-standby")
+TIMED = ("kovelamiru-fence", "kovelamiru-mirror", "kovelamiru-publish", "kovelamiru-standby")
 SERVICES = ("kovelamiru-desk", "kovelamiru-peer", *TIMED)
 USERS = (NAME, "kovelamiru-mirror", "kovelamiru-publish")
 CAPABILITY = "net_bind_service"
@@ -54,7 +54,7 @@ def units(package: Package, room: Path) -> list[Path]:
     """The units, with the programs of the unpacked package."""
     for path in sorted((package.root / UNITS).iterdir()):
         text = re.sub(
-            r"(?m)^(ExecStart=|ExecCondition=\+)/", rf"\1{package.root}/", path.read_text()
+            r"(?m)^(ExecStart=|ExecCondition=\+?)/", rf"\1{package.root}/", path.read_text()
         )
         (room / path.name).write_text(text)
     found = sorted(room.iterdir())
@@ -88,6 +88,9 @@ def test_each_start_asks_whether_it_may_serve_and_each_end_takes_its_mark_away(
     assert f"ExecCondition=+/usr/lib/{NAME}/may-serve" in lines
     assert "ExecStopPost=-+/bin/rm -f /run/kovelamiru-peer/serves" in lines
     assert (package.root / f"usr/lib/{NAME}/may-serve").stat().st_mode & 0o111 == 0o111
+    fence = package.text(f"{UNITS}/kovelamiru-fence.service").splitlines()
+    assert "ExecCondition=/usr/bin/desk-peer fenced $PEER" in fence
+    assert f"ExecStart=+/usr/bin/systemctl stop {NAME}.service" in fence
     shown = package.text(f"usr/share/{NAME}/nginx-desk.conf")
     for path in ("/run/kovelamiru-peer/serves", "/var/lib/kovelamiru-peer/term"):
         assert f"alias {path};" in shown

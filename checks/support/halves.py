@@ -4,7 +4,7 @@ from __future__ import annotations
 import subprocess
 import sys
 from pathlib import Path
-from typing import Iterator
+from typing import Iterator, Sequence
 
 from checks.support.images import OWNER
 from checks.support.messages import token
@@ -67,6 +67,8 @@ class Site(Nginx):
         part = (ROOT / "packaging/nginx-desk.conf").read_text()
         for path, here in (("/var/lib", self.half.state), ("/run", self.half.run)):
             part = part.replace(f"alias {path}/kovelamiru-peer/", f"alias {here}/")
+        witness = f"alias {self.half.state.parent}/witness/"
+        part = part.replace("alias /var/lib/kovelamiru-witness/", witness)
         (self.room / "part.conf").write_text(part)
         included = f"include {ROOT}/packaging/nginx-desk.conf"
         return super().site(name).replace(included, f"include {self.room}/part.conf")
@@ -119,8 +121,10 @@ class Machine(Half):
         note(" ".join(map(str, asked)), "", done.stdout)
         return done
 
-    def follows(self, url: str, status: int = 0, says: str = "calls ") -> None:
+    def follows(
+        self, url: str, status: int = 0, says: str = "calls ", more: Sequence[str | Path] = ()
+    ) -> None:
         """As kovelamiru-standby.service does."""
-        words = (self.db, self.minutes, "--url", url, "--state", self.state)
-        done = self.runs("desk-standby", *words)
+        words = ("--url", url, "--state", self.state)
+        done = self.runs("desk-standby", self.db, self.minutes, *words, *more)
         assert done.returncode == status and says in done.stdout, done

@@ -31,6 +31,8 @@ and at /serves, while the desk serves or is about to, the file RUN/serves.
   promote  gives this machine a term above all that it saw, unless the other one serves. With
            --alone the other machine isn't asked, now and at the next start: it is off, or nobody
            reaches it, and that stays so until it has been started again as a standby or by `start`.
+  fenced   status 0 where the other one has a greater term. kovelamiru-fence.timer asks so each half
+           minute, and then stops this machine's desk; status 1 is silent.
 
 So the old machine, which comes back, doesn't serve: the other one's term is greater. desk-standby
 and desk-publish refuse a desk of a lower term than they saw.
@@ -146,11 +148,25 @@ def promote(words: argparse.Namespace) -> str:
     return f"term {term}: this machine serves at the next start of kovelamiru-desk"
 
 
+def fenced(words: argparse.Namespace) -> int:
+    """Whether the other machine has been promoted since this desk began."""
+    peer = Peer(words)
+    try:
+        term, _ = peer.asked()
+    except NoAnswer:
+        term = 0
+    if max(term, peer.seen) <= peer.own:
+        return REFUSED
+    print(f"term {peer.own}: {words.url} has been promoted to {max(term, peer.seen)}, so this"
+          " machine's desk stops", file=sys.stderr)
+    return DONE
+
+
 def words_of(arguments: Optional[list[str]]) -> argparse.Namespace:
     parser = argparse.ArgumentParser(prog="desk-peer", description=ABOUT, epilog=MORE,
                                      formatter_class=argparse.RawDescriptionHelpFormatter,
                                      allow_abbrev=False)
-    parser.add_argument("does", choices=("start", "promote"))
+    parser.add_argument("does", choices=("start", "promote", "fenced"))
     parser.add_argument("--url", required=True, help="the other machine's site of nginx.conf, by"
                         " its own name, whichever machine the desk's name is")
     parser.add_argument("--ca", metavar="FILE",
@@ -170,6 +186,8 @@ def main() -> int:
     words = words_of(None)
 
     def work() -> int:
+        if words.does == "fenced":
+            return fenced(words)
         print(start(words) if words.does == "start" else promote(words), file=sys.stderr)
         return DONE
 

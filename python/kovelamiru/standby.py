@@ -46,8 +46,8 @@ The run ends with `desk-standby: refused RULE` where
   term        of two machines with the desk this is the old one: another has been promoted
   minutes     the desk doesn't have the last line of MINUTES, or has fewer lines than DB
   47 Minute   a new line isn't what the rules give, or DB has another one; those before it are kept
-  dbx, db, level
-              the desk shows another one than its minutes give: it was restored from an older copy
+  dbx         the desk shows another one than its minutes give, as one that was restored from an
+              older copy may; so with db and level
   checkpoint  the minutes aren't those of --checkpoint, or are fewer
   witness     they don't begin with what --sign signed last
 
