@@ -106,7 +106,8 @@ ln -s "../../../share/$name/page" "$tree/$demo/page"
 ln -s "../lib/$name/demo/packaging/demo.sh" "$tree/usr/bin/desk-demo"
 
 python3 "$here/man.py" "$program" "$(date -d "@$SOURCE_DATE_EPOCH" +%F)" "$room"
-for page in desk.1 desk-http.7 desk-demo.1 desk-peer.1 desk-publish.1 desk-standby.1 kovelamiru-mirror.1; do
+for page in desk.1 desk-http.7 desk-operate.7 desk-demo.1 desk-peer.1 desk-publish.1 desk-standby.1 \
+    kovelamiru-mirror.1; do
     packed "$room/$page"
     place 644 "$room/$page.gz" "usr/share/man/man${page##*.}/$page.gz"
 done
@@ -158,8 +159,8 @@ repository; both sums should be that SHA-256:
     ./prove desk
     sha256sum crates/desk/out/desk /usr/bin/desk
 
-No desk is made, and nothing is started, by the installation. desk(1) says how to make one, how to
-let it serve, how to copy it, and what an older copy means. Neither remove nor purge takes
+No desk is made, and nothing is started, by the installation. desk-operate(7) says how to make one,
+how to let it serve, how to copy it, and what an older copy means. Neither remove nor purge takes
 /var/lib/kovelamiru-desk away.
 README
 place 644 "$room/README.Debian" "usr/share/doc/$name/README.Debian"

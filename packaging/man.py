@@ -1,6 +1,6 @@
 #!/usr/bin/env python3
-"""man.py PROGRAM DATE FOLDER: writes the manual pages into the folder: desk.1, desk-http.7, and one
-for each of the other tools.
+"""man.py PROGRAM DATE FOLDER: writes the manual pages into the folder: desk.1, desk-operate.7,
+desk-http.7, and one for each of the other tools.
 
 Each text has one source: a program's help for it and its subcommands, docs/FORMATS.md for formats and
 routes, docs/REFUSALS.md for refusals, packaging/README.md for the service and what stands around
@@ -75,6 +75,10 @@ TOOLS = {
     "desk-standby": "keeps a copy of a Secure Boot desk",
     "kovelamiru-mirror": "mirrors what a Secure Boot desk publishes",
 }
+OTHERS = ", ".join(f"{name}(1)" for name in (*TOOLS, "desk-demo"))
+OPERATE = """\
+How the package's desk is begun, kept, copied, published, checked and put beside other tools. desk(1)
+has the subcommands."""
 DEMO = """\
 With PROGRAM it is a desk of that program; with FOLDER it is made there, and the folder stays. Not for
 work: whoever can read the folder has the tokens."""
@@ -196,19 +200,27 @@ def desk_page(said, date):
         ("INPUT AND OUTPUT", formats),
         ("EXIT STATUS", terms(STATUSES)),
         ("DIAGNOSTICS", diagnostics + roff("desk-http(7) lists all refusals.")),
+        ("ENVIRONMENT", roff(ENVIRONMENT)),
+        ("SEE ALSO", [f"desk-operate(7), desk-http(7), {OTHERS}"]),
+    ]
+    about = "Secure Boot signing and revocation desk"
+    return page("desk", 1, date, said.version, about, parts)
+
+
+def operate_page(date, version):
+    """The operator's chapters."""
+    parts = [
+        ("DESCRIPTION", roff(OPERATE)),
         *of_readme("The service", "Who may connect", "Backup", "A standby", "Two machines"),
         *of_readme("What makes a desk grow", "A proxy in front", "People with certificates"),
         *of_readme("Publishing"),
         ("AUDITS", document("AUDIT")),
         *of_readme("A demo", "Runbooks"),
         ("OTHER TOOLS", document("INTEROPERATION")),
-        ("ENVIRONMENT", roff(ENVIRONMENT)),
         ("FILES", terms(FILES.items(), "I")),
-        ("SEE ALSO", ["desk-http(7), " + ", ".join(f"{name}(1)" for name in (*TOOLS, "desk-demo"))
-                      + ", systemctl(1), runuser(1), nginx(8)"]),
+        ("SEE ALSO", [f"desk(1), desk-http(7), {OTHERS}, systemctl(1), runuser(1), nginx(8)"]),
     ]
-    about = "Secure Boot signing and revocation desk"
-    return page("desk", 1, date, said.version, about, parts)
+    return page("desk-operate", 7, date, version, "keeping a Secure Boot desk", parts)
 
 
 def http_page(said, date):
@@ -241,7 +253,8 @@ def helped(text):
         if not part.startswith("  "):
             found += [".PP"] + filled(" ".join(part.split()))
         elif ROW.match(part):
-            found += terms(ROW.findall(re.sub(r"\n {6,}(?=\S)", " ", part)))
+            rows = ROW.findall(re.sub(r"\n {6,}(?=\S)", "  ", part))
+            found += terms((name, " ".join(about.split())) for name, about in rows)
         else:
             found += example([row[2:] for row in part.split("\n")])
     return found
@@ -271,6 +284,7 @@ def main():
     program, date, folder = sys.argv[1:]
     said = Help(program)
     pages = {"desk.1": desk_page(said, date), "desk-http.7": http_page(said, date),
+             "desk-operate.7": operate_page(date, said.version),
              "desk-demo.1": demo_page(date, said.version)}
     pages.update({f"{name}.1": tool_page(name, date, said.version) for name in TOOLS})
     for name, text in pages.items():

@@ -13,12 +13,13 @@ from checks.support.wire import REFUSALS
 
 TOOLS = ("desk-peer", "desk-publish", "desk-standby", "kovelamiru-mirror")
 PAGES = (
-    "man1/desk.1", "man7/desk-http.7", "man1/deskctl.1", "man1/desk-demo.1",
+    "man1/desk.1", "man7/desk-http.7", "man1/deskctl.1", "man7/desk-operate.7", "man1/desk-demo.1",
     *(f"man1/{name}.1" for name in TOOLS),
 )
-PARTS = (
-    "THE SERVICE", "WHO MAY CONNECT", "BACKUP", "PUBLISHING", "AUDITS", "RUNBOOKS", "OTHER TOOLS",
-    "EXIT STATUS",
+PARTS = ("SUBCOMMANDS", "INPUT AND OUTPUT", "EXIT STATUS", "DIAGNOSTICS")
+CHAPTERS = (
+    "THE SERVICE", "WHO MAY CONNECT", "BACKUP", "A STANDBY", "TWO MACHINES", "PUBLISHING", "AUDITS",
+    "RUNBOOKS", "OTHER TOOLS", "FILES",
 )
 COMPLETED = """
 . "$0" && COMP_WORDS=(desk "$@") COMP_CWORD=$# && _desk && printf '%s\\n' "${COMPREPLY[@]}"
@@ -68,7 +69,16 @@ def test_desk_1_has_each_subcommand_with_an_example_and_each_part(
     assert [what for what in due if not tells(said, what)] == []
     examples = "\n".join(re.findall(r"^ *Example:\n.*\n?.*", said, re.M))
     assert [one for one in subcommands if not tells(examples, f"desk {one}")] == []
+
+
+@pytest.mark.needs("man")
+def test_the_operators_chapters_are_in_desk_operate_7_alone(package: Package, room: Path) -> None:
+    said = shown(source(package, PAGES[3], room))
+    assert [what for what in CHAPTERS if not re.search(rf"^{what}$", said, re.M)] == []
     assert re.search("both digests", said, re.I)
+    reference = shown(source(package, PAGES[0], room))
+    assert [what for what in CHAPTERS if re.search(rf"^{what}$", reference, re.M)] == []
+    assert tells(reference, "desk-operate(7),")
 
 
 @pytest.mark.needs("man")
@@ -99,11 +109,13 @@ def test_desk_http_7_has_each_route_and_each_refusal(package: Package, room: Pat
     assert refusals and lacking == []
 
 
-def test_desk_1_and_the_examples_have_the_port_of_the_service(package: Package, room: Path) -> None:
+def test_the_chapters_and_the_examples_have_the_port_of_the_service(
+    package: Package, room: Path
+) -> None:
     service = package.text(f"usr/lib/systemd/system/{NAME}.service")
     port = re.findall(r"^Environment=PORT=(\d+) ", service, re.M)[0]
     assert int(port) < 1024, "any user can take it"
-    page = " ".join(shown(source(package, PAGES[0], room)).split())
+    page = " ".join(shown(source(package, PAGES[3], room)).split())
     assert f"at port {port} of 127.0.0.1" in page
     examples = f"usr/share/doc/{NAME}/examples"
     assert f"server 127.0.0.1:{port};" in package.text(f"{examples}/nginx.conf")
