@@ -103,11 +103,14 @@ class Reader(Site):
 
     def same_term(self, path: str, state: str = terms.STATE) -> None:
         """Ends the run where the term of the desk's machine is below one that was seen, which the
-        file keeps, or that of this machine. On loopback there is no site that shows it."""
+        file keeps, or that of this machine. On loopback there may be no site that shows it."""
         try:
-            found = terms.shown(self.asked("/term", 403, 404))
+            found = terms.shown(self.asked("/term", 403, 404) if self.where.tls else
+                                self.once(Call("GET", "/term")))
         except NoAnswer as fault:
-            broken(f"GET /term: {fault}")
+            if self.where.tls:
+                broken(f"GET /term: {fault}")
+            found = None
         seen = terms.kept(path)
         most = max(seen, terms.kept(f"{state}/term"))
         if found is None and not self.where.tls:
