@@ -156,7 +156,8 @@ def not_a_desk(answer: Answer) -> Stop:
 def read_answer(response: http.client.HTTPResponse, seconds: float = math.inf,
                 most: float = math.inf, heard: Callable[[int], None] = lambda _: None) -> Answer:
     """Reads a response whole; one that is cut is none. Each piece may come in time, and all of them
-    never: so there may be so many seconds for them, and so many bytes at most. What came is told."""
+    never: so there may be so many seconds for them, and so many bytes at most. What came is
+    told."""
     length = response.getheader("Content-Length", "")
     short = length.isdecimal() and int(length) <= 8 << 20
     body: BinaryIO = io.BytesIO() if short else tempfile.TemporaryFile()  # type: ignore[assignment]

@@ -61,14 +61,14 @@ Nothing is published, and the line on standard error begins with `desk-publish: 
   level       a generation or the stamp is below the published one
   witnesses   fewer than -k witnesses signed its checkpoint within 90 seconds
   shim        shim-dbx.esl, read again, doesn't revoke what dbx does
-  signature   the signing command failed; or firmware wouldn't take what it made: it doesn't end with
-              the list, its time isn't after that of the update before, or is ahead of the clock; or
-              no key of --kek signed it for that variable
+  signature   the signing command failed; or firmware wouldn't take what it made: it doesn't end
+              with the list, its time isn't after that of the update before, or is ahead of the
+              clock; or no key of --kek signed it for that variable
 """
 MORE = """\
 FOLDER alone shows an older copy of a desk, but not one that was restored together with it: that
-takes --witness, the checkpoint.txt of a mirror, with its checkpoint.txt.sig beside it. One that --key
-didn't sign, or that isn't there, stops nothing, and standard error says so.
+takes --witness, the checkpoint.txt of a mirror, with its checkpoint.txt.sig beside it. One that
+--key didn't sign, or that isn't there, stops nothing, and standard error says so.
 
 Options alone make no new publication: a changed --key or --sign takes effect with the next call.
 Once --public-minutes is left out, nobody else can read minutes.txt in any folder, though index.html
@@ -160,8 +160,8 @@ def publish(words: argparse.Namespace, link: str) -> str:
 # The options but for those that say where the desk is, and who reads it.
 OPTIONS: tuple[tuple[str, dict[str, Any]], ...] = (
     ("--sign", {"metavar": "COMMAND", "help": "makes an authenticated update of each list"}),
-    ("--kek", {"metavar": "FILE", "help": "the certificates of which one signs each update, in PEM; with"
-               " --sign, and openssl(1)"}),
+    ("--kek", {"metavar": "FILE", "help": "the certificates of which one signs each update, in PEM;"
+               " with --sign, and openssl(1)"}),
     ("--consent", {"metavar": "FILE", "help": "a change of db takes a second officer's line, signed"
                    " in FILE.sig; with --signers"}),
     ("--signers", {"metavar": "FILE", "help": "whose keys sign consent: lines `NAME KEY`"}),

@@ -1,5 +1,5 @@
-"""Authenticated updates (EFI_VARIABLE_AUTHENTICATION_2 of UEFI 2.10, section 8.2.2): what the signing
-command makes, and whether firmware would take it."""
+"""Authenticated updates (EFI_VARIABLE_AUTHENTICATION_2 of UEFI 2.10, section 8.2.2): what the
+signing command makes, and whether firmware would take it."""
 from __future__ import annotations
 
 import argparse
@@ -92,8 +92,8 @@ def unsigned(made: bytes, name: str, kek: str) -> str:
             with open(content, "wb") as file:
                 file.write(name.encode("utf-16-le") + DATABASE + attributes.to_bytes(4, "little")
                            + made[:16] + made[end:])
-            done = ran("openssl cms", ["openssl", "cms", "-verify", "-binary", "-inform", "DER", "-in",
-                                       at, "-content", content, "-certfile", kek, "-nointern",
+            done = ran("openssl cms", ["openssl", "cms", "-verify", "-binary", "-inform", "DER",
+                                       "-in", at, "-content", content, "-certfile", kek, "-nointern",
                                        "-noverify", "-out", os.devnull], SIGNING_SECONDS)
             if done.returncode == 0:
                 return ""
