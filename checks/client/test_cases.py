@@ -26,7 +26,8 @@ Case = dict[str, Any]
 IMPORTS, CERTIFICATES = files("imports"), files("certificates")
 DOUBTS, LOOKS = wire("cases/doubts"), wire("cases/looks")
 ROUTES = {"lists": "/imports/dbx", "csv": "/imports/csv", "level": "/imports/level",
-          "microsoft": "/imports/csv"}
+          "microsoft": "/imports/csv", "hashes": "/imports/csv"}
+BROUGHT: dict[str, str] = wire("words")["brought"]
 # What is set aside, by the words that deskctl has for it.
 ASIDE = {"versions": "svn", "flat": "flat", "certificates": "certificate",
          "images without": "other"}
@@ -35,6 +36,7 @@ WHY = {
     "empty": "it is empty", "nothing": "names nothing that the desk takes",
     "list": "a signature list", "update": "authenticated update", "utf-16": "text in UTF-16",
     "header": "no header that is known", "csv": "a record of the CSV", "json": "the JSON",
+    "level": "isn't sbat,1,STAMP", "hash": "line 2 isn't 64", "certificate": "it is a certificate",
     "unknown": "no file of revocations", "two": "holds 2 certificates",
     "key": "holds a private key",
     "not": "is no certificate|holds 0 certificates|the PEM is spoiled",
@@ -89,11 +91,16 @@ def named(case: Case) -> Case:
 
 @each(IMPORTS)
 def test_a_file_of_revocations_is_read(case: Case, tmp_path: Path) -> None:
-    (tmp_path / "case").write_bytes(case["bytes"])
+    path = tmp_path / str(case.get("file", "case"))
+    path.write_bytes(case["bytes"])
     try:
-        found = revocations.revocations_of(str(tmp_path / "case"), None)
+        found = revocations.revocations_of(str(path), None)
     except Stop as fault:
         assert re.search(WHY[case.get("refused", "empty")], str(fault)) and "refused" in case
+        said = "\n".join([str(fault), *fault.more])
+        brought = [name for name in ("certificate", "mok", "kek")
+                   if BROUGHT[name].split("{")[0] in said]
+        expect(brought, case.get("says", []), "what is said of what was brought")
         return
     refused = "nothing" if found.names_nothing() else None
     expect(refused, case.get("refused"), "what it is refused for")

@@ -175,7 +175,7 @@ REFUSED: dict[str, tuple[bytes, int, list[str]]] = {
     "short.auth": (update(b"", size=23), 2, ["23 bytes"]),
     "long.auth": (update(b"", size=24 + 91), 2, ["115 bytes, and 114 are left"]),
     "c.esl --stamp " + TODAY + "01": (LISTS, 2, ["--stamp is for a CSV that raises"]),
-    "c.esl --arch x64": (LISTS, 2, ["--arch is for Microsoft's list alone"]),
+    "c.esl --arch x64": (LISTS, 2, ["--arch is for lists with architectures"]),
     "dbx.json --arch riscv64": (PUBLISHED, 2, ["It has: arm64, x64"]),
 }
 

@@ -6,13 +6,14 @@ import { tmpdir } from 'node:os';
 import { join } from 'node:path';
 import { test } from 'node:test';
 
-import { json, rowBytes } from './cases.mjs';
+import { json, plain, rowBytes } from './cases.mjs';
 import { certificateOf, subjectOf } from '../../page/formats/certificates.js';
 import { sha256 } from '../../page/formats/digests.js';
 import { certificateIn } from '../../page/formats/pem.js';
 import { revocationsOf } from '../../page/formats/revocations.js';
 
 const { parts, imports, certificates } = json('cases/imports');
+const { brought } = json('words');
 const sorted = (set) => [...set].sort();
 const total = (counts) => [...counts.values()].reduce((sum, one) => sum + one, 0);
 const csvOf = (digests) => [...digests].reduce(
@@ -29,14 +30,20 @@ function isRefused(found, word) {
 // before.
 function sentOf(row, found, bytes) {
     if (row.body) return rowBytes(row.body, parts);
-    if (row.kind === 'microsoft') return Buffer.from(csvOf(found.digests));
+    if (['microsoft', 'hashes'].includes(row.kind)) return Buffer.from(csvOf(found.digests));
     return bytes.subarray(bytes.length - found.body.length);
 }
 
 for (const row of imports) test(`“${row.name}” is imported, or refused`, async () => {
     const bytes = rowBytes(row.bytes, parts);
-    const found = await revocationsOf(bytes);
-    if (row.refused) return isRefused(found, row.refused);
+    const found = await revocationsOf(bytes, row.file);
+    if (row.refused) {
+        isRefused(found, row.refused);
+        const said = ['certificate', 'mok', 'kek'].filter((one) => (
+            plain(found.fault).toLowerCase().includes(brought[one].split('{')[0].toLowerCase())
+        ));
+        return assert.deepEqual(said, row.says ?? []);
+    }
     assert.deepEqual(
         {
             refused: found.refused,

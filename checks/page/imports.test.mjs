@@ -126,7 +126,8 @@ const REFUSED = [
     [`${CSV}${hashed('aa')}md5,00,\n`, 'Record 2 isn’t'],
     [CSV, NOTHING],
     [CSV + many.join(''), 'and the desk takes 10,000 at once'],
-    ['sbat,\n', 'Its first line isn’t sbat,1,STAMP.'],
+    ['sbat,\n', 'Its first line isn\'t sbat,1,STAMP, as that of a level is.'],
+    [joined(ofHex('4d534346'), Buffer.alloc(60)), 'It is a cabinet archive: unpack it first'],
 ];
 for (const [file, told] of REFUSED) test(`it is refused: ${told}`, async () => {
     const { fault } = await look(new Uint8Array(Buffer.from(file)), known);

@@ -24,6 +24,7 @@ const KINDS = {
     csv: 'CSV',
     level: 'A level’s text',
     microsoft: 'Microsoft’s list',
+    hashes: 'Digests with architectures',
 };
 
 /** So many certificates, and so many generations, are told one by one. */
@@ -52,7 +53,7 @@ const ASIDE = {
  * @returns {Promise<Look>}
  */
 export async function look(bytes, known, name = '') {
-    const found = await revocationsOf(bytes);
+    const found = await revocationsOf(bytes, name);
     const { path, body } = found;
     const none = bytes.length === 0 ? 'Empty' : 'It can’t be imported';
     const { lines, fresh, raises } = news(found, known.now);

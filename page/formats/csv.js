@@ -23,3 +23,12 @@ export function recordsOf(text) {
     }
     return found;
 }
+
+// Whether it is a record of the desk's CSV.
+/** @param {string[]} row */
+export function isRecord([kind, value, generation, ...more]) {
+    if (generation === undefined || more.length > 0) return false;
+    if (kind === 'sbat') return value !== '' && /^[1-9][0-9]*$/.test(generation);
+    const isDigest = /^[0-9a-fA-F]{64}$/.test(value) && generation === '';
+    return (kind === 'sha256' || kind === 'x509_sha256') && isDigest;
+}

@@ -1,9 +1,10 @@
-// What Microsoft publishes of its revocations (dbx_info_msft of secureboot_objects), as JSON and as
-// a table: its images by their Authenticode hashes. Hashes of whole files, versions of boot
-// programs and certificates, of which it has thumbprints alone, are left out: as digests they would
-// bar nothing.
+// Images by their Authenticode hashes and architectures: what Microsoft publishes of its
+// revocations (dbx_info_msft of secureboot_objects), as JSON and as a table, and Debian's
+// debian-dbx.hashes. Hashes of whole files, versions of boot programs and certificates, of which
+// Microsoft has thumbprints alone, are left out: as digests they would bar nothing.
 
 import { isVersionDigest } from './siglists.js';
+import { wire } from './wire.js';
 import { joined } from './words.js';
 
 /**
@@ -13,11 +14,6 @@ import { joined } from './words.js';
  * @typedef {Record<string, string>} Said
  * what is said of an image, by names without spaces, signs and capitals
  */
-
-/** @type {Record<string, string>} */
-const ARCHES = {
-    amd64: 'x64', x86_64: 'x64', ia32: 'x86', i386: 'x86', aa64: 'arm64', aarch64: 'arm64',
-};
 
 /** @param {string} name */
 const plainly = (name) => name.toLowerCase().replace(/[^a-z0-9]/g, '');
@@ -42,7 +38,7 @@ function take(found, said, arch) {
     const isSha256 = plainly(said.hashtype || 'SHA256') === 'sha256';
     const hash = some(said, 'authenticode').find((text) => isSha256 && isHash(text));
     const named = arch.trim().toLowerCase();
-    if (named) found.arches.add(ARCHES[named] ?? named);
+    if (named) found.arches.add(wire.words.arches[named] ?? named);
     if (!hash) return leave(found, flat ? 'flat' : 'other');
     const digest = hash.trim().toLowerCase();
     if (isVersionDigest(digest)) return leave(found, 'svn');
@@ -99,6 +95,27 @@ export function imagesOfTable([head = [], ...records]) {
         take(found, said, some(said, 'arch')[0] ?? '');
     }
     return found;
+}
+
+/** A line of a digest and its image's architecture. */
+const HASH_LINE = /^([0-9A-Fa-f]{64})[ \t]+(\w+)\s*$/;
+
+/** @param {string} name */
+const isArch = (name) => Object.keys(wire.words.arches).includes(name.toLowerCase());
+
+// The images of lines of digests with their architectures, or the line that is none; null where the
+// first that is no comment is no such line.
+/** @param {string} text @returns {Images | { line: number } | null} */
+export function imagesOfHashes(text) {
+    const found = none();
+    for (const [at, line] of text.split('\n').entries()) {
+        const [, hash, arch = ''] = HASH_LINE.exec(line) ?? [];
+        if (isArch(arch)) take(found, { authenticode: hash }, arch);
+        else if (line.trim() !== '' && !line.startsWith('#')) {
+            return found.arches.size > 0 ? { line: at + 1 } : null;
+        }
+    }
+    return found.arches.size > 0 ? found : null;
 }
 
 /** @param {Images} images */

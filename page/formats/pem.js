@@ -29,6 +29,15 @@ export function certificateIn(bytes) {
     return der && isCertificate(der) ? { der } : { refused: 'not', fault: NOT };
 }
 
+// The certificate that a file is, or the first of those in PEM; null where there is none.
+/** @param {Uint8Array} bytes */
+export function firstCertificate(bytes) {
+    if (isCertificate(bytes)) return bytes;
+    const [found] = new TextDecoder('latin1').decode(bytes).matchAll(CERTIFICATE);
+    const der = found ? decoded(found[2]) : null;
+    return der && isCertificate(der) ? der : null;
+}
+
 /** @param {string} text in base64 */
 function decoded(text) {
     try {

@@ -1,15 +1,19 @@
 // What a file of revocations names, by its bytes alone: signature lists, with or without what
-// stands before them; the desk's CSV; a level's text; Microsoft's lists. The desk reads what is
+// stands before them; the desk's CSV; a level's text; digests by Microsoft and Debian. The desk reads what is
 // sent again, and its reading is what counts.
 
+import { certificateFault, isUtf16, looksLike, sentence } from './brought.js';
 import { givenOf, isCertificate } from './certificates.js';
-import { recordsOf } from './csv.js';
+import { isRecord, recordsOf } from './csv.js';
 import { tbsOf } from './der.js';
 import { sha256 } from './digests.js';
-import { archWords, imagesOfJson, imagesOfTable } from './microsoft.js';
-import { greatest, levelOf } from './sbat.js';
+import { archWords, imagesOfHashes, imagesOfJson, imagesOfTable } from './microsoft.js';
+import { firstCertificate } from './pem.js';
+import { greatest, isLevel, levelHeld, levelOf, looksLikeLevel, textOf } from './sbat.js';
 import { beginsList, digestIn, hasTime, isVersion, listBytes, listsOf } from './siglists.js';
 import { unwrapped } from './update.js';
+import { wire } from './wire.js';
+import { filled } from './words.js';
 
 /**
  * @typedef {{ kind: string, path: string, body: Uint8Array, digests: Set<string>,
@@ -17,22 +21,21 @@ import { unwrapped } from './update.js';
  *   count: number, aside: Map<string, number>, skipped: Map<string, number>, timed: number,
  *   owners: Set<string>, given: Map<string, import('./certificates.js').Given>, notes: string[],
  *   refused: string, fault: string }} Revocations
- * kind: `lists`, `csv`, `level` or `microsoft`; `path` and `body` are what is sent; `stamp` is a
- * level's. `count` is of all entries that are sent, `skipped` of those that the desk skips, by
+ * kind: `lists`, `csv`, `level`, `microsoft` or `hashes`; `path` and `body` are what is sent;
+ * `stamp` is a level's. `count` is of all entries that are sent, `skipped` of those that the desk skips, by
  * their kind, `aside` of those that are left out here, by why. `timed` have a time of revocation,
  * `given` are certificates that stand in it whole.
  * `notes` say what stood before lists, and what else there is to say. `refused` says in a word why
  * it can't be imported, `fault` in a sentence; both are empty if it can.
  */
 
-const UNKNOWN = 'It is of no kind that is known here. '
-    + 'The page takes signature lists, the desk’s CSV, a level’s text and Microsoft’s lists.';
+const TAKES = 'The page takes signature lists, the desk’s CSV, a level’s text, and lists of '
+    + 'digests by Microsoft and by Debian.';
 const HEADER = 'kind,value,generation';
-const NO_JSON = 'The JSON is cut, or has no images with an authenticodeHash, as Microsoft’s has.';
 
-// What a file names; EF BB BF before a text is left out.
-/** @param {Uint8Array} bytes @returns {Promise<Revocations>} */
-export async function revocationsOf(bytes) {
+// What a file of this name names; EF BB BF before a text is left out.
+/** @param {Uint8Array} bytes @param {string} [name] @returns {Promise<Revocations>} */
+export async function revocationsOf(bytes, name = '') {
     const plain = textOf(bytes.subarray(0, 3)) === 'ï»¿' ? bytes.subarray(3) : bytes;
     const text = textOf(plain.subarray(0, 4096));
     if (bytes.length === 0) return refused('empty', 'The file has no byte.');
@@ -40,18 +43,36 @@ export async function revocationsOf(bytes) {
         return refused('utf-16', 'It is text in UTF-16. Save it as UTF-8, or as plain CSV.');
     }
     if (/^kind,value,generation\r?\n/.test(text)) return whole(csv(plain));
+    const held = levelHeld(bytes);
+    if (held) return whole(level(held.text, held.notes));
     if (/^sbat,/.test(text)) return whole(level(plain));
-    const table = text.includes('\0') ? null : microsoft(plain, text);
-    return whole(table ?? await lists(bytes));
+    const table = text.includes('\0') ? null : tableOf(plain, text);
+    const found = table ?? await lists(bytes);
+    const der = found.refused === 'unknown' ? firstCertificate(bytes) : null;
+    return der ? refused('certificate', certificateFault(der, name)) : whole(found);
+}
+
+// What the lines of a text name: Debian's digests, Microsoft's lists, a level without its first
+// line; null if a text is none of these, nor like a table.
+/** @param {Uint8Array} bytes @param {string} begin */
+function tableOf(bytes, begin) {
+    const text = new TextDecoder().decode(bytes);
+    const hashes = imagesOfHashes(text);
+    if (hashes && 'line' in hashes) {
+        const line = String(hashes.line);
+        return refused('hash', sentence(filled(wire.words.brought.hash, { line })));
+    }
+    if (hashes) return named(hashes, 'hashes');
+    return microsoft(text, begin) ?? (looksLikeLevel(bytes) ? level(bytes) : null);
 }
 
 // What Microsoft's lists name; null if a text isn't one, nor like a table.
-/** @param {Uint8Array} bytes @param {string} begin */
-function microsoft(bytes, begin) {
-    const text = new TextDecoder().decode(bytes);
+/** @param {string} text @param {string} begin */
+function microsoft(text, begin) {
     if (/^\s*[[{]/.test(begin)) {
         const images = imagesOfJson(text);
-        return images ? named(images) : refused('json', NO_JSON);
+        const { json, cabinet } = wire.words.brought;
+        return images ? named(images) : refused('json', `${sentence(json)} ${cabinet}`);
     }
     const images = /^.*authenticode/i.test(begin) ? imagesOfTable(recordsOf(text) ?? []) : null;
     if (images) return named(images);
@@ -61,12 +82,12 @@ function microsoft(bytes, begin) {
     return refused('header', `The first line of a table has to be ${wanted}`);
 }
 
-/** @param {import('./microsoft.js').Images} images @returns {Revocations} */
-function named(images) {
+/** @param {import('./microsoft.js').Images} images @param {string} [kind] @returns {Revocations} */
+function named(images, kind = 'microsoft') {
     const { digests, aside } = images;
     const rows = [...digests].map((digest) => `sha256,${digest},\n`);
     const body = new TextEncoder().encode(`${HEADER}\n${rows.join('')}`);
-    const found = empty('microsoft', '/imports/csv', body);
+    const found = empty(kind, '/imports/csv', body);
     return { ...found, digests, aside, count: digests.size, notes: [archWords(images)] };
 }
 
@@ -105,29 +126,15 @@ function whole(found) {
     return { ...found, refused: 'nothing', fault: 'It names nothing that the desk takes.' };
 }
 
-// A file as text, a byte a character.
-/** @param {Uint8Array} bytes */
-const textOf = (bytes) => new TextDecoder('latin1').decode(bytes);
-
-// Whether it is text in UTF-16, by its mark or by every other byte of its first eight characters.
-/** @param {Uint8Array} bytes */
-function isUtf16(bytes) {
-    const [first, second] = bytes;
-    if ((first === 0xff && second === 0xfe) || (first === 0xfe && second === 0xff)) return true;
-    const begin = [...bytes.subarray(0, 16)];
-    const isText = (/** @type {number} */ zero) => begin.every(
-        (byte, at) => (at % 2 === zero ? byte === 0 : byte >= 0x20 && byte < 0x7f),
-    );
-    return begin.length === 16 && (isText(0) || isText(1));
-}
-
 /** @param {Uint8Array} bytes */
 async function lists(bytes) {
     const inner = unwrapped(bytes);
     if ('fault' in inner) return refused('update', inner.fault);
     const read = listsOf(inner.body);
     if ('wrongAt' in read) {
-        if (inner.before.length === 0 && !beginsList(bytes)) return refused('unknown', UNKNOWN);
+        if (inner.before.length === 0 && !beginsList(bytes)) {
+            return refused('unknown', `It is ${looksLike(bytes)}. ${TAKES}`);
+        }
         const at = bytes.length - inner.body.length + read.wrongAt;
         return refused('list', `There is no whole signature list at byte ${at}.`);
     }
@@ -179,21 +186,12 @@ function csv(bytes) {
     };
 }
 
-/** @param {string[]} row */
-function isRecord([kind, value, generation, ...more]) {
-    if (generation === undefined || more.length > 0) return false;
-    if (kind === 'sbat') return value !== '' && /^[1-9][0-9]*$/.test(generation);
-    const isDigest = /^[0-9a-fA-F]{64}$/.test(value) && generation === '';
-    return (kind === 'sha256' || kind === 'x509_sha256') && isDigest;
-}
-
-/** @param {Uint8Array} bytes @returns {Revocations} */
-function level(bytes) {
+/** @param {Uint8Array} bytes @param {string[]} [notes] @returns {Revocations} */
+function level(bytes, notes = []) {
     const text = textOf(bytes).split('\0')[0];
-    if (!/^sbat,1,[0-9]+\r?(\n|$)/.test(text)) {
-        return refused('level', 'Its first line isn’t sbat,1,STAMP.');
-    }
+    const { brought } = wire.words;
+    if (!isLevel(text)) return refused('level', `${sentence(brought.level)} ${brought.stamp}`);
     const { names, stamp } = levelOf(text);
     const found = empty('level', '/imports/level', bytes);
-    return { ...found, components: names, stamp, count: names.size };
+    return { ...found, components: names, stamp, count: names.size, notes };
 }

@@ -1,6 +1,30 @@
-// The text of an SBAT level.
+// The text of an SBAT level, and where a variable or an image holds one.
+
+import { sentence } from './brought.js';
+import { textsIn } from './pe.js';
+import { VARIABLE, isVariable } from './update.js';
+import { wire } from './wire.js';
+import { filled } from './words.js';
 
 /** @typedef {{ stamp: number, names: Map<string, number> }} Level */
+
+/** How a level begins, and the lines of one: its first line may be missing. */
+const LEVEL = /^sbat,0*1,[0-9]{10}(?![0-9])/;
+const LEVEL_LINES = /^(?:[!-+\--~]{1,128},[0-9]{1,10}(?:,[^\n]*)?\r?(?:\n|$))+[\s\0]*$/;
+/** The sections of an image of revocations: the level that shim applies by itself, the latest. */
+const LEVEL_SECTIONS = ['.sbata', '.sbatl'];
+
+// A file as text, a byte a character.
+/** @param {Uint8Array} bytes */
+export const textOf = (bytes) => new TextDecoder('latin1').decode(bytes);
+
+// Whether a text begins as a level does.
+/** @param {string} text */
+export const isLevel = (text) => LEVEL.test(text);
+
+// Whether each line is one of a level's.
+/** @param {Uint8Array} bytes */
+export const looksLikeLevel = (bytes) => LEVEL_LINES.test(textOf(bytes));
 
 // A level's text: its stamp, and the greatest generation of each name.
 /** @param {string} text @returns {Level} */
@@ -26,4 +50,23 @@ export function greatest(rows) {
         names.set(name, Math.max(names.get(name) ?? 0, generation));
     }
     return names;
+}
+
+// The text of a level that a variable or an image holds, and what is said of that; null where none
+// does.
+/** @param {Uint8Array} bytes @returns {{ text: Uint8Array, notes: string[] } | null} */
+export function levelHeld(bytes) {
+    const { brought } = wire.words;
+    if (isVariable(bytes) && textOf(bytes.subarray(4, 9)) === 'sbat,') {
+        return { text: bytes.subarray(4), notes: [`4 bytes before it are left out: ${VARIABLE}.`] };
+    }
+    const isImage = textOf(bytes.subarray(0, 2)) === 'MZ';
+    const [taken, ...others] = isImage ? textsIn(bytes, LEVEL_SECTIONS) : [];
+    if (!taken) return null;
+    const notes = [sentence(filled(brought.image, { section: taken[0] }))];
+    for (const [section, text] of others.filter(([, text]) => textOf(text) !== textOf(taken[1]))) {
+        const { stamp } = levelOf(textOf(text));
+        notes.push(filled(brought.other, { section, stamp: String(stamp) }));
+    }
+    return { text: taken[1], notes };
 }

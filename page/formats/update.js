@@ -14,6 +14,14 @@ const HEAD = 40;
 const ATTRIBUTES = 0x7f;
 
 /** @param {Uint8Array} bytes */
+export function isVariable(bytes) {
+    const attributes = bytes.length >= 4 ? numbersOf(bytes).getUint32(0, true) : 0;
+    return attributes > 0 && attributes <= ATTRIBUTES;
+}
+
+export const VARIABLE = 'the attributes of a variable, as efivarfs gives it';
+
+/** @param {Uint8Array} bytes */
 const numbersOf = (bytes) => new DataView(bytes.buffer, bytes.byteOffset, bytes.byteLength);
 
 /**
@@ -31,10 +39,7 @@ export function unwrapped(bytes) {
         before.push(`${counted(length, 'byte')} before the lists ${are} left out: ${what}.`);
         body = body.subarray(length);
     };
-    const attributes = body.length >= 4 ? numbersOf(body).getUint32(0, true) : 0;
-    if (attributes > 0 && attributes <= ATTRIBUTES) {
-        skip(4, 'the attributes of a variable, as efivarfs gives it');
-    }
+    if (isVariable(body)) skip(4, VARIABLE);
     const day = dayOf(body);
     if (beginsList(body) || !(isCertificate(body) || day)) return { body, before };
     const fault = headFault(body);

@@ -17,7 +17,7 @@ import { Command } from '../desk/journal.js';
 const MOST = 67108864;
 
 const HINT = 'Signature lists, as a published dbx; the desk’s CSV; a level’s text; '
-    + 'or Microsoft’s dbx_info. Choose it, or drop it here.';
+    + 'Microsoft’s dbx_info or Debian’s debian-dbx.hashes. Choose it, or drop it here.';
 const STAMP_HINT = 'The date and two digits. '
     + 'An import that raises a generation needs one above the level’s.';
 

@@ -4,9 +4,8 @@ from __future__ import annotations
 import os
 import stat
 import tempfile
-from typing import Sequence
 
-from .described import LIMITS
+from .described import LIMITS, WORDS
 from .faults import broken, reason, wrong
 from .siglists import KINDS
 
@@ -28,21 +27,7 @@ def read_file(path: str, limit: int, what: str) -> bytes:
     return data
 
 
-LOOKS: Sequence[tuple[bytes,
-                      str]] = ((b"\x1f\x8b", "compressed by gzip: unpack it first"),
-                               (b"\xfd7zXZ", "compressed by xz: unpack it first"),
-                               (b"\x28\xb5\x2f\xfd", "compressed by zstd: unpack it first"),
-                               (b"PK\x03\x04", "a zip archive: unpack it first"),
-                               (b"MSCF", "a cabinet archive: unpack it first"),
-                               (b"!<arch>\n", "a Debian package or an archive: unpack it first"),
-                               (b"\xed\xab\xee\xdb", "an RPM package: unpack it first"),
-                               (b"\x7fELF", "an ELF program, no EFI image"),
-                               (b"-----BEGIN CERTIFICATE",
-                                "a certificate in PEM"), (b"-----BEGIN",
-                                                          "text in PEM"), (b"MZ", "an image"),
-                               (b"sbat,", "SBAT text"), (b"kind,value,generation",
-                                                         "the desk's CSV"), (b"{", "JSON"),
-                               (b"[", "JSON"), (b"0\x81", "DER"), (b"0\x82", "DER"))
+LOOKS: list[tuple[bytes, str]] = [(bytes.fromhex(begin), words) for begin, words in WORDS["looks"]]
 
 
 def looks_like(data: bytes) -> str:

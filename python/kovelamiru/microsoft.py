@@ -1,6 +1,7 @@
-"""What Microsoft publishes of its revocations (dbx_info_msft of secureboot_objects), as JSON and as
-a table: its images by their Authenticode hashes. Hashes of whole files, versions of boot programs
-and certificates are set aside."""
+"""Images by their Authenticode hashes and architectures: what Microsoft publishes of its
+revocations (dbx_info_msft of secureboot_objects), as JSON and as a table, and Debian's
+debian-dbx.hashes. Hashes of whole files, versions of boot programs and certificates are set
+aside."""
 from __future__ import annotations
 
 import json
@@ -10,12 +11,12 @@ from dataclasses import dataclass, field
 from typing import Any, Iterator, Optional
 
 from .csv import first_record, records
+from .described import WORDS as SHARED
 from .faults import Unreadable
 from .siglists import VERSIONS, VERSION_ENTRY
 from .words import HEX
 
-ARCHES = {"amd64": "x64", "x86_64": "x64", "ia32": "x86", "i386": "x86", "aa64": "arm64",
-          "aarch64": "arm64"}
+ARCHES: dict[str, str] = SHARED["arches"]
 FLAT = "flat hashes (of whole files)"
 CERTIFICATES = "certificates (give their files: deskctl revoke --certificate)"
 # An image: its architecture, and what is said of it by plain names.
@@ -87,8 +88,7 @@ def published_json(data: bytes) -> Published:
     found = Published("Microsoft's dbx_info_msft (JSON)", list(images_of(value)))
     names = {name for _, said in found.images for name in said}
     if not any("authenticode" in name or "flat" in name for name in names):
-        raise Unreadable(
-            "the JSON has no images with an authenticodeHash, as Microsoft's dbx_info_msft has")
+        raise Unreadable(SHARED["brought"]["json"], SHARED["brought"]["cabinet"])
     for name, words in (("certificates", CERTIFICATES), ("svns", VERSIONS)):
         entries = value.get(name) if isinstance(value, dict) else None
         if isinstance(entries, list):
@@ -107,3 +107,24 @@ def published_table(data: bytes) -> Optional[Published]:
         arches = [text for name, text in said.items() if "arch" in name]
         images.append((arch_named(arches[0]) if arches else "", said))
     return Published("Microsoft's dbx_info (CSV)", images)
+
+
+# A line of a digest and its image's architecture.
+HASH_LINE = re.compile(r"([0-9A-Fa-f]{64})[ \t]+(\w+)\s*\Z")
+
+
+def published_hashes(data: bytes) -> Optional[Published]:
+    """The lines of digests with their architectures, if the first that is no comment is one."""
+    lines = data.decode("utf-8-sig", "replace").split("\n")
+    images = []
+    for number, line in enumerate(lines, 1):
+        if not line.strip() or line.startswith("#"):
+            continue
+        found = HASH_LINE.match(line)
+        if found and found[2].lower() in ARCHES:
+            images.append((arch_named(found[2]), {"authenticodehash": found[1]}))
+        elif not images:
+            return None
+        else:
+            raise Unreadable(SHARED["brought"]["hash"].format(line=number))
+    return Published("digests with architectures, as debian-dbx.hashes", images) if images else None

@@ -4,6 +4,7 @@ from __future__ import annotations
 import base64
 import binascii
 import re
+from typing import Optional
 
 from .certificates import Certificate, certificate_in
 from .faults import wrong
@@ -32,6 +33,15 @@ def decoded(path: str, data: bytes) -> bytes:
         return base64.b64decode(b"".join(found[0][1].split()), validate=True)
     except binascii.Error:
         wrong(f"{path}: the PEM is spoiled")
+
+
+def first_certificate(data: bytes) -> Optional[Certificate]:
+    """The certificate that a file is, or the first of those in PEM; nothing where there is none."""
+    found = PEM.search(data)
+    try:
+        return certificate_in(base64.b64decode(b"".join(found[2].split())) if found else data)
+    except binascii.Error:
+        return None
 
 
 def certificate_of(path: str) -> Certificate:

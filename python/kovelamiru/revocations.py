@@ -4,15 +4,17 @@ from __future__ import annotations
 import re
 from collections import Counter
 from dataclasses import dataclass, field
-from typing import Optional
+from typing import Optional, Sequence
 
+from .brought import BROUGHT, certificate_steps
 from .certificates import Certificate, certificate_in
 from .csv import records
 from .der import BadDer, tbs_digest
 from .faults import Unreadable, wrong
 from .files import looks_like, read_file
-from .microsoft import Published, arch_named, published_json, published_table
-from .sbat import level_read
+from .microsoft import Published, arch_named, published_hashes, published_json, published_table
+from .pem import first_certificate
+from .sbat import LEVEL, LEVEL_LINES, level_held, level_read
 from .siglists import KINDS, VERSIONS, SignatureList, guid, is_version, read_lists
 from .update import unwrapped
 from .words import printable
@@ -103,10 +105,12 @@ def csv_named(data: bytes) -> Revocations:
     return found
 
 
-def level_named(data: bytes) -> Revocations:
+def level_named(data: bytes, notes: Sequence[str] = ()) -> Revocations:
+    if not LEVEL.match(data.removeprefix(b"\xef\xbb\xbf")):
+        raise Unreadable(BROUGHT["level"], BROUGHT["stamp"])
     stamp, named = level_read(data.decode("utf-8-sig", "replace"))
     return Revocations("a level's text (SBAT)", "/imports/level", data, stamp=stamp,
-                       components=sorted(named.items()))
+                       components=sorted(named.items()), notes=list(notes))
 
 
 def microsoft_named(found: Published, arch: Optional[str]) -> Revocations:
@@ -138,7 +142,7 @@ HEADER_LIKE = re.compile(
 
 def text_named(data: bytes, arch: Optional[str]) -> Optional[Revocations]:
     """What a text names; nothing where it is none."""
-    text = data[3:] if data.startswith(b"\xef\xbb\xbf") else data
+    text = data.removeprefix(b"\xef\xbb\xbf")
     if is_utf16(data):
         raise Unreadable("it is text in UTF-16",
                       "Save it as UTF-8: iconv -f UTF-16 -t UTF-8 FILE > OTHER")
@@ -147,13 +151,15 @@ def text_named(data: bytes, arch: Optional[str]) -> Optional[Revocations]:
     if b"\0" in data[:4096] and not text.startswith(b"sbat,"):
         return None
     if not text.startswith((b"sbat,", b"kind,")):
-        table = published_table(data)
+        table = published_hashes(data) or published_table(data)
         begin = text[:4096].decode("utf-8", "replace")
         if table is None and HEADER_LIKE.search(begin):
             raise Unreadable(
                 f"its first line is {begin.splitlines()[0][:60]!r}, and no header that is known",
                 ("Nothing stands before a header. The desk's is kind,value,generation;"
                  " Microsoft's names a column with Authenticode. Commas are between."))
+        if table is None and LEVEL_LINES.match(text):
+            return level_named(data)
         return microsoft_named(table, arch) if table else None
     if arch:
         return None
@@ -176,13 +182,18 @@ def revocations_of(path: str, arch: Optional[str]) -> Revocations:
     """What a file names; its kind is found by its bytes."""
     data = read_file(path, 256 << 20, "a file of revocations has here")
     try:
-        found = text_named(data, arch)
-        if found is None and arch:
-            wrong("--arch is for Microsoft's list alone")
+        level, notes = level_held(data)
+        found = level_named(level, notes) if level else text_named(data, arch)
+        if arch and (level or found is None):
+            wrong("--arch is for lists with architectures: Microsoft's, debian-dbx.hashes")
         if found is None and data:
             found = lists_in(data)
     except Unreadable as fault:
         wrong(f"{path}: {fault}", fault.step)
+    one = first_certificate(data) if found is None else None
+    if one:
+        wrong(f"{path}: {BROUGHT['certificate'].format(subject=one.subject)}",
+              *certificate_steps(path))
     if found is None:
         wrong(f"{path} is no file of revocations; it is {looks_like(data)}",
               "`deskctl import --help` lists the kinds.")

@@ -1,7 +1,17 @@
-"""A level's text (shim's SBAT.md): its stamp, and a generation for each component."""
+"""A level's text (shim's SBAT.md): its stamp, and a generation for each component; and where a
+variable or an image holds one."""
 from __future__ import annotations
 
+import re
+
+from .brought import BROUGHT
 from .faults import Unreadable
+from .pe import texts_in
+from .update import variable
+
+# How a level begins, and a line of one: its first line may be missing.
+LEVEL = re.compile(rb"sbat,0*1,[0-9]{10}(?![0-9])")
+LEVEL_LINES = re.compile(rb"(?:[!-+\--~]{1,128},[0-9]{1,10}(?:,[^\n]*)?\r?(?:\n|\Z))+[\s\0]*\Z")
 
 
 def level_read(text: str, whole: bool = False) -> tuple[int, dict[str, int]]:
@@ -19,3 +29,22 @@ def level_read(text: str, whole: bool = False) -> tuple[int, dict[str, int]]:
     if whole and not stamp:
         raise Unreadable("the level is no SBAT text")
     return stamp, found
+
+
+# The sections of an image of revocations: the level that shim applies by itself, and the latest.
+LEVEL_SECTIONS = (b".sbata", b".sbatl")
+
+
+def level_held(data: bytes) -> tuple[bytes, list[str]]:
+    """The text of a level that a variable or an image holds, and what is said of that; nothing
+    where none does."""
+    inner, before = variable(data)
+    if before and inner.startswith(b"sbat,"):
+        return inner, before
+    texts = texts_in(data, LEVEL_SECTIONS) if data.startswith(b"MZ") else {}
+    if not texts:
+        return b"", []
+    (name, taken), *others = texts.items()
+    return taken, [BROUGHT["image"].format(section=name)] + [
+        BROUGHT["other"].format(section=other, stamp=level_read(text.decode("utf-8", "replace"))[0])
+        for other, text in others if text != taken]

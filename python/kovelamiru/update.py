@@ -25,14 +25,18 @@ def efi_time(data: bytes) -> Optional[str]:
     return f"{year}-{month:02}-{day:02} {hour:02}:{minute:02}:{second:02}"
 
 
+def variable(data: bytes) -> tuple[bytes, list[str]]:
+    """What a variable's file of efivarfs holds, and what stands before it; else the same bytes."""
+    attributes = int.from_bytes(data[:4], "little")
+    if len(data) < 4 or not 0 < attributes <= ATTRIBUTE_BITS:
+        return data, []
+    return data[4:], [f"a variable as efivarfs gives it, attributes 0x{attributes:02x}"]
+
+
 def unwrapped(data: bytes) -> tuple[bytes, list[str]]:
     """Signature lists without what stands before them in a variable's file or in an update, and
     what that was."""
-    found = []
-    attributes = int.from_bytes(data[:4], "little")
-    if len(data) >= 4 and 0 < attributes <= ATTRIBUTE_BITS:
-        found.append(f"a variable as efivarfs gives it, attributes 0x{attributes:02x}")
-        data = data[4:]
+    data, found = variable(data)
     when = efi_time(data)
     if data[22:40] == UPDATE or when and data[:16] not in KINDS:
         found.append("an authenticated update (EFI_VARIABLE_AUTHENTICATION_2)"

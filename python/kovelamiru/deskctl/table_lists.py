@@ -77,13 +77,14 @@ LISTS: tuple[Command, ...] = (
              word("--stamp", metavar="N", type=stamp_word,
                   help="for a CSV that raises generations: the new stamp, YYYYMMDDNN"),
              word("--arch", metavar="A",
-                  help="only Microsoft's images of this architecture: x64, x86, arm64, arm"),
+                  help="only images of this architecture, where a list names it: x64, arm64, .."),
              word("--dry-run", action="store_true", help="say what is in it, and send nothing")),
             "officers",
             ("The kinds, found by their bytes: signature lists; the same as an authenticated update"
-             " (DBXUpdate.bin) or as efivarfs has them; the desk's CSV; a level's text; Microsoft's"
-             " dbx_info_msft, JSON or CSV. The signature of an update isn't verified. Says first"
-             " what is in it. More than 10,000 entries are several proposals. Versions of Windows'"
+             " (DBXUpdate.bin) or as efivarfs has them; the desk's CSV; a level's text, also in a"
+             " variable (SbatLevel) or an image of revocations (.sbata, else .sbatl); Microsoft's"
+             " dbx_info_msft, JSON or CSV; debian-dbx.hashes. The signature of an update isn't"
+             " verified. Says first what is in it. More than 10,000 entries are several proposals. Versions of Windows'"
              " boot programs and hashes of whole files are left out. Asks first where it looks like"
              " a list of what is allowed: by its name (db, MokListRT), its owner or what it has."),
             "deskctl import DBXUpdate.bin --dry-run"),
