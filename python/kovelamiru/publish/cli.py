@@ -14,7 +14,7 @@ from typing import Any
 
 from ..faults import DONE, broken, wrong
 from ..reader import Reader, add_reader, ended, has_reader
-from .desk import from_file, from_url
+from .desk import Found, from_file, from_url
 from .folder import current, filled, hidden, linked, named, published, swept
 from .rules import judged
 from .sums import day
@@ -114,6 +114,15 @@ program failed
 """
 
 
+def asked(words: argparse.Namespace, link: str) -> Found:
+    """The desk, in a file or at its URL, where it isn't the old one of two machines."""
+    if words.db:
+        return from_file(words.program, words.db)
+    desk = Reader(words, "desk-publish")
+    desk.same_term(f"{link}.term")
+    return from_url(desk)
+
+
 def publish(words: argparse.Namespace, link: str) -> str:
     if os.path.lexists(link) and not os.path.islink(link):
         wrong(f"{link} isn't a link that desk-publish made")
@@ -123,12 +132,7 @@ def publish(words: argparse.Namespace, link: str) -> str:
     swept(link, words.keep)
     if not words.public_minutes:
         hidden(link)
-    if words.db:
-        found = from_file(words.program, words.db)
-    else:
-        desk = Reader(words, "desk-publish")
-        desk.same_term(f"{link}.term")
-        found = from_url(desk)
+    found = asked(words, link)
     witnessed(words, last, found)
     found, waits = judged(words, last.found if last else None, found)
     if waits:

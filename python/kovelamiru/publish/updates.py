@@ -93,8 +93,9 @@ def unsigned(made: bytes, name: str, kek: str) -> str:
                 file.write(name.encode("utf-16-le") + DATABASE + attributes.to_bytes(4, "little")
                            + made[:16] + made[end:])
             done = ran("openssl cms", ["openssl", "cms", "-verify", "-binary", "-inform", "DER",
-                                       "-in", at, "-content", content, "-certfile", kek, "-nointern",
-                                       "-noverify", "-out", os.devnull], SIGNING_SECONDS)
+                                       "-in", at, "-content", content, "-certfile", kek,
+                                       "-nointern", "-noverify", "-out", os.devnull],
+                       SIGNING_SECONDS)
             if done.returncode == 0:
                 return ""
             said = said_by(done)
