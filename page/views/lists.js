@@ -2,17 +2,20 @@
 // officers to list and to take off.
 
 import { anew, read, refusalBox } from './act.js';
+import { onceAtATime } from './asking.js';
 import { whyLink } from './calls.js';
-import { answers, button, buttons, fill, h, heading, quiet, section } from './dom.js';
+import { answers, button, buttons, fill, h, heading, p, quiet, section } from './dom.js';
 import { download } from './files.js';
 import { listing } from './listing.js';
 import { digest } from './marks.js';
 import { paged } from './table.js';
 import { unlistButton } from './unlisting.js';
 import { get } from '../desk/api.js';
+import { forShim } from '../desk/levels.js';
 import { me } from '../desk/session.js';
 import { standing } from '../desk/standing.js';
-import { counted, grouped, joined } from '../formats/words.js';
+import { wire } from '../formats/wire.js';
+import { counted, filled, grouped, joined } from '../formats/words.js';
 
 /** @typedef {import('./dom.js').Child} Child */
 /** @typedef {import('../desk/standing.js').Listed} Listed */
@@ -137,5 +140,28 @@ function levelPart({ level: { stamp, names } }) {
     });
     table.set([...names]);
     const told = 'An image with a component below its generation here is barred.';
-    return section('The SBAT level', quiet(`Stamp ${stamp}. ${told}`), table.place);
+    return section(
+        'The SBAT level',
+        quiet(`Stamp ${stamp}. ${told}`),
+        table.place,
+        me.officer ? shimPart() : null,
+    );
+}
+
+// The level without the names that shim can do without: it is worked out once it is asked for.
+function shimPart() {
+    const said = answers();
+    const go = button('Download the level for shim', onceAtATime(async () => {
+        fill(said, quiet('Reading from the desk…'));
+        const answer = await forShim();
+        if (answer.kind !== 'value') return fill(said, refusalBox(answer));
+        const { text, level, left } = answer.value;
+        download([text], 'level-for-shim.csv');
+        const { shim } = wire.words;
+        const rows = [...left].map(([name, parent]) => filled(shim.left, {
+            name, generation: level.get(name), parent, higher: level.get(parent),
+        }));
+        return fill(said, (rows.length > 0 ? rows : [shim.none]).map((row) => p(row)));
+    }));
+    return h('div', {}, buttons(go), said);
 }
