@@ -11,16 +11,16 @@ import tempfile
 import time
 from typing import Callable, Optional
 
-from .checkpoints import NAME as CHECKPOINT, unwitnessed, witnesses_in
-from .faults import DONE, NoAnswer, Unreadable, broken, wrong
-from .fetch import fetched
-from .programs import refused, unsigned
-from .publish.desk import audit_of
-from .publish.files import read, synced, write
-from .publish.folder import current, linked, swept
-from .publish.rules import kept
-from .publish.sums import NAME as SUMS, Sums, day, sums_of
-from .reader import ended
+from ..checkpoints import NAME as CHECKPOINT, unwitnessed, witnesses_in
+from ..faults import DONE, NoAnswer, Unreadable, broken, wrong
+from ..fetch import fetched
+from ..programs import refused, unsigned
+from ..reader import ended
+from .desk import audit_of
+from .files import read, synced, write
+from .folder import current, linked, swept
+from .rules import kept
+from .sums import NAME as SUMS, Sums, day, sums_of
 
 PROGRAM = "kovelamiru-mirror"
 # How long a file may take, and be; how often it is said how much of one came.
