@@ -18,6 +18,7 @@ from checks.support.tools import ROOT
 from checks.support.wire import REFUSALS, wire
 from kovelamiru import compare, doubts, pem, pkcs7, refusals, revocations, signer, standing
 from kovelamiru.answers import Request, shaped
+from kovelamiru.beside import level_lines
 from kovelamiru.certificates import Certificate, certificate_in
 from kovelamiru.facts import Facts
 from kovelamiru.faults import Stop
@@ -119,6 +120,13 @@ def test_a_file_of_revocations_is_read(case: Case, tmp_path: Path) -> None:
         }, "what it names")
         if found.body:
             expect(found.body, case.get("body", case["bytes"]), "the bytes that are sent")
+
+
+@each(wire("cases/imports")["levels"])
+def test_a_level_is_told_beside_the_desks(case: Case) -> None:
+    desk = case["desk"]
+    told = level_lines(case["stamp"], dict(case["names"]), desk["stamp"], dict(desk["names"]))
+    expect(told, case["says"], "what is said")
 
 
 @each(CERTIFICATES)

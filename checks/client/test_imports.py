@@ -97,7 +97,8 @@ KINDS: dict[str, tuple[bytes, str, list[str]]] = {
     "own.csv": (b"\xef\xbb\xbfkind,value,generation\r\nsha256," + ONE.encode() + b",\r\n",
                 f"import 0 0 {ONE} - -", ["the desk's CSV"]),
     "level": (f"sbat,1,{TODAY}07\ngrub,3\ngrub,2\n".encode(), f"import {TODAY}07 0 - - 3:grub", [
-        "a level's text (SBAT)", "components    1, 1 new"]),
+        "a level's text (SBAT)", "components    1, 1 new",
+        f"level         Stamp {TODAY}07; the desk's is 2021030218."]),
     "dbx.json --arch aarch64": (PUBLISHED, f"import 0 0 {A3},{A1} - -", [
         "taken: arm64", "left out      3 images of other architectures"]),
     "dbx.csv --arch amd64": (TABLE, f"import 0 0 {A1} - -", ["taken: x64"]),

@@ -3,8 +3,9 @@
 import assert from 'node:assert/strict';
 import { test } from 'node:test';
 
-import { json, rowBytes } from './cases.mjs';
+import { json, plain, rowBytes } from './cases.mjs';
 import { allowDoubts } from '../../page/desk/allowing.js';
+import { levelLines } from '../../page/desk/beside.js';
 import { knownOf } from '../../page/desk/doubts.js';
 import { look } from '../../page/desk/imports.js';
 import { givenOf } from '../../page/formats/certificates.js';
@@ -16,7 +17,7 @@ import { wire } from '../../page/formats/wire.js';
 import { filled } from '../../page/formats/words.js';
 import { lostWords } from '../../page/views/act.js';
 
-const { parts, certificates, owner, allows } = json('cases/imports');
+const { parts, certificates, owner, allows, levels } = json('cases/imports');
 const SIGNER = certificates.find(({ name }) => name === 'a signer that its CA issued, in DER');
 const certificate = Buffer.from(rowBytes(SIGNER.bytes, parts));
 // A desk that holds nothing.
@@ -163,6 +164,13 @@ for (const { name, file, bytes, listed = {}, revoked = [], asks, ...words } of a
         const found = await revocationsOf(rowBytes(bytes, parts));
         const due = asks.map((one) => filled(wire.questions.import[one], { ...words, name: file }));
         assert.deepEqual(allowDoubts(file, found, now).map(({ text }) => text), due);
+    });
+}
+
+for (const { name, stamp, names, desk, says } of levels) {
+    test(`${name}: it is told beside the desk’s`, () => {
+        const level = { stamp: desk.stamp, names: new Map(desk.names) };
+        assert.deepEqual(levelLines({ stamp, names: new Map(names) }, level).map(plain), says);
     });
 }
 

@@ -1,6 +1,7 @@
 // A look into a file before it is imported: what kind it is, what is in it, what of that is new.
 
 import { allowDoubts } from './allowing.js';
+import { levelLines } from './beside.js';
 import { itemDoubts } from './doubts.js';
 import { revocationsOf } from '../formats/revocations.js';
 import { higher } from '../formats/sbat.js';
@@ -82,7 +83,7 @@ function news({ digests, certificates, components, stamp, given }, { revoked, le
     const images = others(digests, revoked.digests);
     const signers = others(certificates, revoked.certificates);
     const raised = higher(components, level);
-    const lines = stamp === null ? [] : [`Stamp ${stamp}; the desk’s is ${level.stamp}.`];
+    const lines = stamp === null ? [] : levelLines({ stamp, names: components }, level);
     /** @type {(name: string, all: number, some: number, what: string) => void} */
     const count = (name, all, some, what) => {
         if (all > 0) lines.push(`${counted(all, name)}, ${part(all, some)} ${what}.`);

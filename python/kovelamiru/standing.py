@@ -24,6 +24,7 @@ class Standing:
     revoked_digests: set[str] = field(default_factory=set)
     revoked_certificates: set[str] = field(default_factory=set)
     level: dict[str, int] = field(default_factory=dict)
+    stamp: int = 0
     # Those of the lists' entries: what the desk writes has its own.
     owners: set[str] = field(default_factory=set)
 
@@ -79,7 +80,8 @@ def level_of(desk: Desk) -> tuple[int, dict[str, int]]:
 
 def revoked_of(desk: Desk) -> Standing:
     """What bars images today, without what is listed."""
-    found = Standing(level=level_of(desk)[1])
+    stamp, level = level_of(desk)
+    found = Standing(level=level, stamp=stamp)
     for kind, entry in lists_of(desk, "dbx"):
         found.take("dbx", kind, entry)
     return found

@@ -6,6 +6,7 @@ from dataclasses import dataclass
 from typing import Callable, Optional, Sequence
 
 from ..allowing import allow_doubts
+from ..beside import level_lines
 from ..csv import records
 from ..doubts import certificate_words, known, level_doubts
 from ..faults import Causes, Refused, wrong
@@ -66,11 +67,12 @@ def import_calls(found: Revocations, stamp: Optional[int], path: str) -> list[Ca
 @dataclass(frozen=True)
 class Force:
     """What is in force at the desk: the entries of dbx by kind, the owners of its lists, the
-    generations of the level."""
+    generations of the level and its stamp."""
 
     entries: dict[str, set[str]]
     owners: set[str]
     level: dict[str, int]
+    stamp: int
 
     def new(self, found: Revocations) -> dict[str, int]:
         """How many entries of a file aren't in force yet."""
@@ -85,7 +87,7 @@ class Force:
 def force_of(run: Run) -> Force:
     now = standing_of(run.desk)
     entries = {"sha256": now.revoked_digests, "x509_sha256": now.revoked_certificates}
-    return Force(entries, now.owners, now.level)
+    return Force(entries, now.owners, now.level, now.stamp)
 
 
 def owner_lines(found: Revocations, force: Optional[Force]) -> list[str]:
@@ -113,6 +115,9 @@ def previewed(path: str, found: Revocations, calls: Sequence[Call],
         count = len(getattr(found, name))
         if count:
             lines.append(f"  {name:<13} {count:,}" + (f", {new[name]:,} new" if new else ""))
+    if found.stamp is not None and force:
+        beside = level_lines(found.stamp, dict(found.components), force.stamp, force.level)
+        lines += [f"  level         {line}" for line in beside]
     lines += [f"  certificate   {certificate_words(one)}"
               for one in list(found.given.values())[:SHOWN]]
     if len(found.given) > SHOWN:
