@@ -1,4 +1,4 @@
-"""page/wire/openapi.json beside docs/FORMATS.md, page/wire/refusals.json and the requests of days.
+"""page/wire/openapi.json beside page/wire/refusals.json, the model and the requests of days.
 
 Of the days of checks/support and of what is refused beside them (refusals.py), each JSON body that
 is accepted and each response is of the schema that it has in the document. The responses are
@@ -12,16 +12,15 @@ from typing import Any, Callable, Dict, List, Optional, Set, Tuple
 
 import pytest
 
+from checks.model import wishes
 from checks.support.days import DAYS
 from checks.support.refusals import REFUSED
 from checks.support.steps import Step
-from checks.support.tools import ROOT
-from checks.support.wire import REFUSALS, wire
+from checks.support.wire import COMMANDS, REFUSALS, wire
 
 Operation = Tuple[str, str]
 
 DOCUMENT = wire("openapi")
-FORMATS = (ROOT / "docs" / "FORMATS.md").read_text(encoding="utf-8")
 EVERY_DAY = {**DAYS, "what is refused": [Step(*one) for one in REFUSED.values()]}
 # No request has it: memory is refused, or the store fails.
 OF_THE_MACHINE = "503"
@@ -114,16 +113,6 @@ def faults(value: Any, schema: Any, at: str) -> List[str]:
 # ---- what the documents say
 
 
-def test_the_operations_are_those_of_the_table_in_formats() -> None:
-    table = FORMATS[FORMATS.index("| Path | GET | POST") :].split("\n\n", 1)[0]
-    said: Set[Operation] = set()
-    for row in table.split("\n")[2:]:
-        paths, *ways = [cell.strip() for cell in row.strip("|").split("|")]
-        for path in re.findall("`([^`]*)`", paths):
-            said.update((path, way) for way, told in zip(("get", "post"), ways) if told)
-    assert set(operations()) == said
-
-
 def refusals_told() -> List[Any]:
     """Each response that is a refusal: its operation and status, with what it says."""
     return [
@@ -158,6 +147,26 @@ def test_each_refusal_of_a_request_stands_at_an_operation() -> None:
     due = {no for no, (name, status) in REFUSALS.items() if status and name != "BadMethod"}
     lacking = [REFUSALS[number] for number in sorted(due - told)]
     assert lacking == [], "no response of page/wire/openapi.json is it"
+
+
+def kind_of(operation: str) -> str:
+    """The word of a command's text, by the name of its operation."""
+    word = re.sub("[A-Z]", lambda one: f"-{one[0].lower()}", operation)
+    return re.sub("^(raise|import)-.*", r"\1", word)
+
+
+def test_the_rules_and_if_match_refuse_a_command_as_in_the_model() -> None:
+    told: Set[Tuple[str, str]] = set()
+    for path in COMMANDS:
+        operation = DOCUMENT["paths"][path]["post"]
+        for status in {"404", "409", "412"} & {*operation["responses"]}:
+            names = followed(operation["responses"][status])["description"].split(", ")
+            told.update((kind_of(operation["operationId"]), name) for name in names)
+    told = {(kind, name) for kind, name in told if name not in ("KeyReused", "Full")}
+    due = {(kind, name) for kind, names in wishes.REFUSED.items() for name in names}
+    due = {(kind, name) for kind, name in due if name not in ("BadField", "BadBody")}
+    assert sorted(due - told) == [], "page/wire/openapi.json lacks it at the command's routes"
+    assert sorted(told - due) == [], "REFUSED of checks/model/wishes.py lacks it"
 
 
 # ---- the days
@@ -226,7 +235,8 @@ def seen() -> Set[Tuple[Optional[Operation], str]]:
 
 
 def test_each_operation_is_accepted_on_a_day() -> None:
-    assert {at for at, status in seen() if status == "200"} == set(operations())
+    accepted = {at for at, status in seen() if status == "200"}
+    assert [one for one in operations() if one not in accepted] == [], "no day of checks/support"
 
 
 def test_each_status_but_that_of_an_outage_is_seen_on_a_day() -> None:

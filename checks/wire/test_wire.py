@@ -8,7 +8,7 @@ import re
 import subprocess
 import sys
 import uuid
-from typing import Any, Dict, Iterator, List, Tuple
+from typing import Any, Dict, Iterator, List, Set, Tuple
 
 import pytest
 
@@ -32,6 +32,12 @@ def test_the_refusals_are_those_of_the_desk_word_for_word() -> None:
     assert [row for row in due if row not in said] == [], "refusal.rt has it, refusals.json hasn't"
     assert [row for row in said if row not in due] == [], "refusals.json has it, refusal.rt hasn't"
     assert said == due, "the order differs"
+
+
+def test_a_new_refusal_stands_last_with_the_next_number() -> None:
+    numbers = [one["number"] for one in REFUSALS]
+    late = [one["name"] for no, one in zip(numbers, REFUSALS[1:]) if one["number"] <= no]
+    assert late == [], f"its number is taken or stands elsewhere; the next is {max(numbers) + 1}"
 
 
 def test_each_refusal_has_the_status_of_its_responses() -> None:
@@ -90,9 +96,30 @@ def test_no_type_of_lists_stands_twice() -> None:
         assert len({one[key] for one in types}) == len(types)
 
 
-def test_the_routes_are_those_of_the_router() -> None:
-    said = {(path, way) for path, ways in wire("openapi")["paths"].items() for way in ways}
-    assert said == rattle.routes() == rattle.route_comments()
+def routes_of_formats() -> Set[Tuple[str, str]]:
+    """Each path of the table in docs/FORMATS.md with its methods."""
+    page = (ROOT / "docs" / "FORMATS.md").read_text(encoding="utf-8")
+    table = page[page.index("| Path | GET | POST") :].split("\n\n", 1)[0]
+    said: Set[Tuple[str, str]] = set()
+    for row in table.split("\n")[2:]:
+        paths, *ways = [cell.strip() for cell in row.strip("|").split("|")]
+        for path in re.findall("`([^`]*)`", paths):
+            said.update((path, way) for way, told in zip(("get", "post"), ways) if told)
+    return said
+
+
+def test_each_place_has_the_routes_of_the_others() -> None:
+    paths = wire("openapi")["paths"]
+    places = {
+        "specs/Paths.antt of http_requests": rattle.routes(),
+        "src/route.rt of http_requests": rattle.route_comments(),
+        "page/wire/openapi.json": {(path, way) for path, ways in paths.items() for way in ways},
+        "the table of docs/FORMATS.md": routes_of_formats(),
+    }
+    every = sorted(set().union(*places.values()))
+    lacking = [f"{name} has no {way} {path}" for name, has in places.items()
+               for path, way in every if (path, way) not in has]
+    assert every and lacking == []
 
 
 def test_the_documents_have_the_tables_of_wire() -> None:
