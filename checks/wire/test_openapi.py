@@ -236,7 +236,8 @@ def seen() -> Set[Tuple[Optional[Operation], str]]:
 
 def test_each_operation_is_accepted_on_a_day() -> None:
     accepted = {at for at, status in seen() if status == "200"}
-    assert [one for one in operations() if one not in accepted] == [], "no day of checks/support"
+    lacking = [one for one in operations() if one not in accepted]
+    assert lacking == [], "no day of checks/support has it"
 
 
 def test_each_status_but_that_of_an_outage_is_seen_on_a_day() -> None:

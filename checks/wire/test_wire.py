@@ -47,6 +47,13 @@ def test_each_refusal_has_the_status_of_its_responses() -> None:
         assert one["status"] == status, f"refused.rt has {status} for {one['name']}"
 
 
+def test_a_refused_request_has_the_refusals_sentence() -> None:
+    means = {one["name"]: one["means"] for one in REFUSALS}
+    told = rattle.variants("http_responses/src/refused.rt", "Refused")
+    other = {name: text for name, text in told.items() if text != means.get(name)}
+    assert told and other == {}, "refused.rt has it, refusals.json hasn't"
+
+
 @pytest.mark.parametrize("one", REFUSALS, ids=[one["name"] for one in REFUSALS])
 def test_a_refusal_says_what_a_person_does_next(one: Dict[str, Any]) -> None:
     ways = [{"next"}, {"page", "terminal"}]
@@ -119,7 +126,7 @@ def test_each_place_has_the_routes_of_the_others() -> None:
     every = sorted(set().union(*places.values()))
     lacking = [f"{name} has no {way} {path}" for name, has in places.items()
                for path, way in every if (path, way) not in has]
-    assert every and lacking == []
+    assert every and not lacking, "\n".join(lacking)
 
 
 def test_the_documents_have_the_tables_of_wire() -> None:
