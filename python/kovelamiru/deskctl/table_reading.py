@@ -1,6 +1,7 @@
 """The commands that read, and those of one's own, with their help."""
 from __future__ import annotations
 
+from .arches import dbx
 from .arguments import Command, seconds_word, word
 from .inbox import inbox
 from .levels import level
@@ -20,6 +21,18 @@ READING: tuple[Command, ...] = (
             ("With --for-shim, unproved: grub.debian is left out once grub was raised later, where"
              " each image of a request that it bars is barred by what stays. Standard error says"
              " which."), "deskctl level --for-shim > level.csv"),
+    Command("dbx", "Reading", "--for-arch TEXT -o FOLDER [--from FILE]",
+            "make a dbx for each architecture", dbx,
+            (word("--for-arch", metavar="TEXT", required=True,
+                  help="which digest is of which: debian-dbx.hashes, Microsoft's list"),
+             word("-o", "--output", metavar="FOLDER", required=True,
+                  help="gets dbx-ARCH.esl of each"),
+             word("--from", dest="source", metavar="FILE",
+                  help="a dbx.esl or shim-dbx.esl at hand, in place of the desk's dbx")), "",
+            ("A digest that TEXT doesn't name, and each certificate, is in every part. Together the"
+             " parts name what dbx names, or nothing is written. The desk knows no architecture, so"
+             " TEXT alone decides, and none of this is proved."),
+            "deskctl dbx --for-arch debian-dbx.hashes --from shim-dbx.esl -o parts"),
     Command("minutes", "Reading", "[--into FILE]", "fetch the minutes",
             minutes, (word("--into", metavar="FILE", help="append to this copy what it lacks"),),
             "officers",
