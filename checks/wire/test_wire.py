@@ -57,7 +57,7 @@ def test_a_refused_request_has_the_refusals_sentence() -> None:
 @pytest.mark.parametrize("one", REFUSALS, ids=[one["name"] for one in REFUSALS])
 def test_a_refusal_says_what_a_person_does_next(one: Dict[str, Any]) -> None:
     ways = [{"next"}, {"page", "terminal"}]
-    assert set(one) - {"number", "name", "kind", "status", "means", "told"} in ways
+    assert set(one) - {"number", "name", "kind", "status", "early", "means", "told"} in ways
     for name in ("means", "told", "next", "page", "terminal"):
         text = one.get(name, "A text.")
         assert text.isascii() and re.fullmatch(r"[A-Z`].*[.?]|.*: \S.*", text), text

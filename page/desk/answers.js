@@ -37,21 +37,13 @@ export function refusal(status, text) {
     };
 }
 
-/**
- * Those that come before the desk has looked at the key: an unknown caller, and what may be wrong
- * with one try's request alone.
- */
-const BEFORE_KEYS = [
-    'UnknownCaller', 'BadHead', 'BadField', 'NoRoute', 'BadMethod', 'LengthNeeded', 'TooLarge',
-    'NotSupported',
-];
-
 // Whether an answer shows that no earlier try under the same key was taken: the desk answers a key
-// that it has with the old reply.
+// that it has with the old reply. An early refusal, of an unknown caller or of what may be wrong
+// with one try's request alone, comes before the desk has looked at the key.
 /** @param {Answer} answer */
 export function settles(answer) {
     if (answer.kind !== 'refused') return answer.kind === 'value';
-    return answer.byDesk && !BEFORE_KEYS.includes(answer.name);
+    return answer.byDesk && !wire.refusals.find((row) => row.name === answer.name)?.early;
 }
 
 /** @param {number} status @param {string} text @returns {Answer} */

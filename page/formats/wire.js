@@ -4,7 +4,7 @@
 /**
  * @typedef {Record<string, string>} Texts
  * @typedef {{ number: number, name: string, means: string, told?: string, next?: string,
- *   page?: string }} Refusal
+ *   page?: string, early?: boolean }} Refusal
  * @typedef {{ name: string, guid: string, entry?: [number, number | null] }} ListType
  * @typedef {{ types: ListType[], owners: Texts, versions: Texts }} Lists
  * @typedef {Record<string, { name: string, means: string }>} States

@@ -8,7 +8,7 @@ from .described import described
 REFUSALS: dict[int, dict[str, Any]] = {row["number"]: row for row in described("refusals")}
 # An unknown caller, and what may be wrong with one try's request alone: the desk hasn't looked at
 # its key.
-BEFORE_KEYS = {20, 50, 51, 53, 54, 55, 56, 57}
+BEFORE_KEYS = {number for number, row in REFUSALS.items() if row.get("early")}
 
 
 def why(number: int) -> str:
