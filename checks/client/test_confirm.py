@@ -159,7 +159,7 @@ def test_a_proposal_and_its_impact_by_the_desk(office: Office) -> None:
     otto.does("proposal 1", f"expect      {name}")
     otto.does(f"confirm 1 --bars 1 --expect {name.upper()}", "1 new component", err=wanted)
     for number in (2, 3):
-        olga.does("revoke shim.efi", f"proposal {number}")
+        olga.does("revoke shim.efi --yes", f"proposal {number}")
     known = f"digest      {authenticode(image)}  request 1 (open, shim)"
     otto.does("proposal 2", known, "bars 0 known images")
     otto.does("proposal 1", "confirmed")

@@ -74,7 +74,7 @@ def test_an_entry_of_another_kind_is_asked_about(office: Office, real: Real) -> 
 @pytest.mark.needs("openssl")
 def test_a_doubt_goes_on_with_yes_and_what_is_right_is_named(office: Office, real: Real) -> None:
     olga, line = office["olga"], f"revoke --digest {WHOLE}"
-    for typed, status in (("no", 2), ("", 2), ("yes", 0)):
+    for typed, status in (("no", 2), ("", 2), ("yes\n", 0)):
         ended, said = olga.asked(line, typed)
         assert ended == status and IS_WHOLE in said, said
         assert ("proposal 1 proposed" in said) == (status == 0), said

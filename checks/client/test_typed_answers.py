@@ -34,9 +34,10 @@ ASKED = [
     Asked("return", "carried", "sid", "return 1 signed.efi"),
     Asked("drop", "plain", "otto", "drop 2"),
     Asked("unlist", "typed", "olga", f"unlist digest {digest('ee')}", "eeeeeeee"),
-    Asked("import", "name", "olga", "import db.esl"),
+    # (an empty line is no reason)
+    Asked("import", "name", "olga", "import db.esl", "yes\n"),
     # (in deskctl's own words)
-    Asked("propose", "", "olga", f"revoke --digest {sha256(PLAIN)}"),
+    Asked("propose", "", "olga", f"revoke --digest {sha256(PLAIN)}", "yes\n"),
 ]
 # What is typed, and how the run ends.
 NO = {

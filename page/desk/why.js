@@ -19,7 +19,7 @@ import { filled } from '../formats/words.js';
  */
 
 /** The calls that are read whatever they name: they speak of requests and proposals by number. */
-const BY_NUMBER = /^(?:confirm|drop|review|withdraw|return) /;
+const BY_NUMBER = /^(?:confirm|drop|explain|review|withdraw|return) /;
 
 /** @type {Record<string, string>} the state of a request after a command */
 const ENDS = { withdraw: 'withdrawn', return: 'signed' };
@@ -141,16 +141,16 @@ export class Story {
     entry(minute, said) {
         const { kind, command: [word], reply: [how] } = said.row;
         const number = said.values.PROPOSAL ?? '';
-        const byNumber = word === 'confirm' || word === 'drop';
+        const byNumber = ['confirm', 'drop', 'explain'].includes(word);
         const named = byNumber ? this.proposals.get(number) : this.named(said);
         // (an import may name nothing, and a proposal that is asked about is told of all the same)
         if (!named || named.length === 0 && (!number || number !== this.names.proposal)) return;
         this.calls.push(minute);
-        if (byNumber) this.now.delete(`open ${number}`);
+        if (byNumber && word !== 'explain') this.now.delete(`open ${number}`);
         const isRevocation = word === 'confirm' || number === '' && kind === 'revoking';
         if (isRevocation) this.inForce(minute, named, number);
         else if (kind === 'listing') this.stands(minute, named[0], how, '');
-        else if (word !== 'drop') this.proposed(minute, named, number);
+        else if (!byNumber) this.proposed(minute, named, number);
     }
 
     /** @param {Minute} minute @param {Named[]} named @param {string} number */

@@ -60,9 +60,10 @@ class Entry:
                 pass
             os.close(opened)
 
-    def write(self, what: str, where: str, tags: list[str]) -> None:
-        """A new key and a tag for each call, on the disk before any of them goes out."""
-        self.keys, self.tags = [new_key() for _ in tags], tags
+    def write(self, what: str, where: str, tags: list[str], key: str = "") -> None:
+        """A new key, or this one, and a tag for each call, on the disk before any of them goes
+        out."""
+        self.keys, self.tags = [key or new_key() for _ in tags], tags
         self.since = now().strftime("%Y-%m-%dT%H:%M:%SZ")
         text = json.dumps({
             "desk": where,

@@ -126,11 +126,14 @@ class Terminal:
         if not self.asks:
             wrong("nothing was sent, since there is no terminal to ask at",
                   f"If it is what you mean, say so: {word}.")
+        if self.typed(question) != wanted:
+            wrong("nothing was sent")
+
+    def typed(self, question: str) -> str:
+        """What a person types at a question."""
         self.err.write(f"{question} ")
         self.err.flush()
-        answer = sys.stdin.readline().strip()
-        if answer != wanted:
-            wrong("nothing was sent")
+        return sys.stdin.readline().strip()
 
     def wrapped(self, text: str) -> str:
         """On a terminal, lines of whole words."""

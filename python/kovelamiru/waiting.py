@@ -5,14 +5,14 @@ from __future__ import annotations
 import datetime
 import re
 from dataclasses import dataclass
-from typing import Any, Optional
+from typing import Any, Iterable, Optional
 
 from .answers import Me, Request, said_number, shaped
 from .desk import Desk
 from .http import Call
 from .journal import now
 from .minutes import minutes_from
-from .sentences import minute
+from .sentences import Minute, minute
 from .words import counted
 
 # So many yes approve a request.
@@ -72,15 +72,18 @@ def yes_words(one: Request) -> str:
     return f"{len(whose)} of {NEEDED} yes" + (f", by {', '.join(whose)}" if whose else "")
 
 
-def ages_of(desk: Desk) -> dict[int, str]:
-    """How long ago each proposal was made, by the clock of whoever made its key; only of those
-    among the desk's last calls."""
+def last_calls(desk: Desk) -> list[Minute]:
+    """The desk's last calls; none at an older desk."""
     changes = changes_of(desk)
     if changes is None:
-        return {}
-    first = max(changes - PART + 1, 1)
-    calls = map(minute, minutes_from(desk, first).decode("ascii", "replace").splitlines())
-    made = [(call, re.fullmatch("proposed ([0-9]+)", call.reply)) for call in calls if call]
+        return []
+    lines = minutes_from(desk, max(changes - PART + 1, 1)).decode("ascii", "replace").splitlines()
+    return list(filter(None, map(minute, lines)))
+
+
+def ages_in(calls: Iterable[Minute]) -> dict[int, str]:
+    """How long ago each proposal of the calls was made, by the clock of whoever made its key."""
+    made = [(call, re.fullmatch("proposed ([0-9]+)", call.reply)) for call in calls]
     return {int(number[1]): age(call.time()) for call, number in made if number and call.time()}
 
 

@@ -67,7 +67,7 @@ class Touched:
 
 
 # The calls that are read whatever they name: they speak of requests and proposals by number.
-BY_NUMBER = ("confirm", "drop", "review", "withdraw", "return")
+BY_NUMBER = ("confirm", "drop", "explain", "review", "withdraw", "return")
 
 
 class Story:
@@ -103,11 +103,13 @@ class Story:
 
     def entry(self, call: Minute, found: Said) -> None:
         word, number = found.row.command[0], found.values.get("PROPOSAL", "")
-        by_number = word in ("confirm", "drop")
+        by_number = word in ("confirm", "drop", "explain")
         named = self.proposals.get(number, []) if by_number else self.names.named(found)
         if not named:
             return
         self.calls.append(call)
+        if word == "explain":
+            return
         if by_number:
             self.now.pop((number, "open"), None)
         if word == "confirm" or (not number and found.row.kind == "revoking"):

@@ -6,7 +6,7 @@ from typing import Mapping, Sequence
 from ..answers import Counts, Me, Request, caller_of, shaped
 from ..proposals import counts_words, names_of
 from ..standing import barred_by, revoked_of
-from ..waiting import ages_of, own_proposals, waiting_of, yes_words
+from ..waiting import ages_in, last_calls, own_proposals, waiting_of, yes_words
 from .run import Run
 from .seen import noticed
 
@@ -57,7 +57,7 @@ def inbox(run: Run) -> None:
 
 
 def officers(run: Run, others: Sequence[Counts], own: Sequence[Counts]) -> None:
-    ages = ages_of(run.desk) if others or own else {}
+    ages = ages_in(last_calls(run.desk)) if others or own else {}
     names = names_of(run.desk, [*others, *own]) if run.terminal.wide else {}
     heads = ("PROPOSAL", "NAMES", "BY", "AGE")
     section(run, WAITS, heads, proposal_rows(others, ages, names))

@@ -23,6 +23,7 @@ from ..standing import level_of, standing_of
 from ..unlisting import losing
 from ..words import HEX, SOME, counted, desk_json, printable
 from .images import facts_of, facts_read_by
+from .reasons import asked_reason, explaining, reason_of
 from .run import Replies, Run, act
 
 
@@ -135,7 +136,14 @@ def unlist(run: Run) -> None:
 
 
 def proposed(run: Run, calls: Sequence[Call], asks: Callable[[bool], None], causes: Causes) -> None:
-    """Makes the proposals, and prints their numbers."""
+    """Makes the proposals, prints their numbers, and explains each by the reason that was given."""
+    reason = None if run.words.why is None else run.words.why and reason_of(run.words.why)
+
+    def both(taken: bool) -> None:
+        nonlocal reason
+        asks(taken)
+        reason = asked_reason(run) if reason is None else reason
+
     def show(replies: Replies) -> None:
         numbers = [said_number(reply, "proposal") for reply in replies]
         for number in numbers:
@@ -145,7 +153,7 @@ def proposed(run: Run, calls: Sequence[Call], asks: Callable[[bool], None], caus
                 "Nothing is in force yet. Another officer looks at it and confirms it: deskctl"
                 f" confirm {numbers[0]}")
 
-    act(run, calls, show, asks, causes)
+    act(run, calls, show, both, causes, explaining(run, lambda: reason or ""))
 
 
 def csv_calls(digests: Sequence[str], certificates: Sequence[str],

@@ -2,7 +2,7 @@
 from __future__ import annotations
 
 from dataclasses import dataclass
-from typing import Any, Callable, Optional
+from typing import Any, Callable, Optional, Sequence
 
 from ..answers import Counts, Impact, Proposal, me_of, proposal_in, said_number, shaped
 from ..described import WORDS
@@ -11,12 +11,14 @@ from ..faults import REFUSED, Refused, Stop, wrong
 from ..http import Call
 from ..proposals import DESCRIBED, counts_words, described
 from ..questions import plain_question, rule_words
+from ..reasons import Reason, in_short, reason_lines, reasons_in, reasons_of
 from ..search import proposal_matches
 from ..standing import level_of, standing_of
-from ..waiting import ages_of
+from ..waiting import ages_in, last_calls
 from ..words import KINDS, counted, kinds, printable
 from .listing import List, show
-from .run import OTHER_DESK, Replies, Run, act
+from .reasons import causes_of, shown_proposal
+from .run import Replies, Run, act
 
 
 ALL = List("/proposals", "officer", proposal_matches, "of this number or officer",
@@ -30,14 +32,16 @@ def proposal_row(value: dict[str, Any]) -> tuple[object, ...]:
 
 def row_at_a_terminal(run: Run) -> Callable[[dict[str, Any]], tuple[object, ...]]:
     """How a row is made that says what an open proposal is, and how old."""
-    now, ages, left = standing_of(run.desk), ages_of(run.desk), iter(range(DESCRIBED))
+    now, calls, left = standing_of(run.desk), last_calls(run.desk), iter(range(DESCRIBED))
+    ages, reasons = ages_in(calls), reasons_in(calls)
 
     def row(value: dict[str, Any]) -> tuple[object, ...]:
         one = shaped(Counts, value)
         is_open = one.state == "open" and next(left, None) is not None
         names = described(run.desk, one, now) if is_open else ""
-        return (one.number, names or counts_words(one), one.officer, one.state,
-                ages.get(one.number, "-"))
+        why = in_short(reasons.get(one.number, []))
+        return (one.number, (names or counts_words(one)) + (f": {why}" if why else ""),
+                one.officer, one.state, ages.get(one.number, "-"))
 
     return row
 
@@ -54,12 +58,6 @@ BLIND = ("this desk doesn't show what a proposal names, nor what it bars: its pr
          " deskctl")
 
 
-def shown_proposal(run: Run, number: int) -> Optional[dict[str, Any]]:
-    """A proposal with all that it names; nothing where the desk has no such route."""
-    answer = run.desk.if_there(Call("GET", f"/proposals/{number}"))
-    return answer.object() if answer else None
-
-
 def row_of(run: Run, number: int) -> Counts:
     for value in run.desk.listed("/proposals", number):
         one = shaped(Counts, value)
@@ -73,11 +71,13 @@ def impact_of(run: Run, number: int) -> dict[str, Any]:
     return run.desk.get(f"/proposals/{number}/impact").object()
 
 
-def named_lines(run: Run, one: Proposal, about: dict[str, str]) -> list[str]:
-    """The desk, and all that a proposal names, an entry a line."""
+def named_lines(run: Run, one: Proposal, about: dict[str, str],
+                reasons: Sequence[Reason]) -> list[str]:
+    """The desk, the reasons, and all that a proposal names, an entry a line."""
     lines = [(f"proposal {one.number} of {printable(one.officer)}: {printable(one.kind)},"
               f" {printable(one.state)}"), f"  desk        {run.desk.where}"]
     lines += [f"  expect      {one.tag()}"] if one.state == "open" else []
+    lines += [f"  why         {printable(line)}" for line in reason_lines(reasons)]
     if one.stamp:
         lines.append(f"  stamp       {one.stamp}")
     for name, entries in (("digest", one.digests), ("certificate", one.certificates)):
@@ -134,7 +134,7 @@ def proposal(run: Run) -> None:
             run.print_json(impact)
         return
     found = known(run.desk, one.digests, one.certificates, one.components)
-    for line in named_lines(run, one, found.about) + lines:
+    for line in named_lines(run, one, found.about, reasons_of(run.desk, number)) + lines:
         run.terminal.say(line)
     own = own_doubts(run, one.officer) if one.state == "open" else []
     level = level_doubts_of(run, one, found) if lines else []
@@ -160,11 +160,13 @@ def closing(number: int) -> list[str]:
 
 @dataclass(frozen=True)
 class Seen:
-    """What an officer is shown before a Confirm: the desk's answers, and what is doubtful."""
+    """What an officer is shown before a Confirm: the desk's answers, what is doubtful, and why it
+    was proposed."""
 
     proposal: dict[str, Any]
     impact: dict[str, Any]
     doubts: list[str]
+    reasons: list[Reason]
 
     def bars(self) -> int:
         return len(shaped(Impact, self.impact).bars)
@@ -188,7 +190,8 @@ def level_doubts_of(run: Run, one: Proposal, found: Known) -> list[str]:
 def show_all(run: Run, value: dict[str, Any], one: Proposal) -> Seen:
     """Shows all that an open proposal names, and what a Confirm of it would do."""
     found = known(run.desk, one.digests, one.certificates, one.components)
-    for line in named_lines(run, one, found.about):
+    reasons = reasons_of(run.desk, one.number)
+    for line in named_lines(run, one, found.about, reasons):
         run.terminal.warn(line)
     try:
         impact = impact_of(run, one.number)
@@ -198,7 +201,7 @@ def show_all(run: Run, value: dict[str, Any], one: Proposal) -> Seen:
     for line in impact_lines(shaped(Impact, impact)):
         run.terminal.warn(line)
     doubts = own_doubts(run, one.officer) + found.doubts + level_doubts_of(run, one, found)
-    return Seen(value, impact, doubts)
+    return Seen(value, impact, doubts, reasons)
 
 
 def confirm_asks(run: Run) -> Optional[str]:
@@ -237,6 +240,9 @@ def confirm_question(run: Run, seen: Seen) -> None:
     if shown_proposal(run, number) != seen.proposal or impact_of(run, number) != seen.impact:
         wrong(f"what proposal {number} names or bars isn't what was shown; nothing was sent",
               f"Look at it again: deskctl proposal {number}")
+    if reasons_of(run.desk, number) != seen.reasons:
+        wrong(f"proposal {number} was explained meanwhile; nothing was sent",
+              f"Look at it again: deskctl proposal {number}")
 
 
 def confirm_blind(run: Run) -> None:
@@ -269,11 +275,7 @@ def confirm(run: Run) -> None:
         if not any(counts.values()):
             run.terminal.note("It changed nothing: all that it names was in force.")
 
-    act(run, [call], show, lambda _: confirm_asks(run), {49: lambda _: another_proposal(number)})
-
-
-def another_proposal(number: int) -> list[str]:
-    return [f"Proposal {number} names something else now. {OTHER_DESK}"]
+    act(run, [call], show, lambda _: confirm_asks(run), causes_of(number))
 
 
 def drop_asks(run: Run, taken: bool) -> Optional[str]:
@@ -289,4 +291,4 @@ def drop(run: Run) -> None:
     number = run.words.number
     call = Call("POST", f"/proposals/{number}/drop", b"", (), "dropped", f"drop {number}")
     act(run, [call], lambda _: run.terminal.say(f"proposal {number} dropped"),
-        lambda taken: drop_asks(run, taken), {49: lambda _: another_proposal(number)})
+        lambda taken: drop_asks(run, taken), causes_of(number))

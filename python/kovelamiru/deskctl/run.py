@@ -44,8 +44,13 @@ Asks = Callable[[bool], Union[None, str, Sequence[str]]]
 CALLERS = (20, 21)
 
 
+# What comes of the replies before the journal lets go of their keys, and how the run ends by it.
+Then = Callable[[Entry, Replies], int]
+
+
 def act(run: Run, calls: Sequence[Call], show: Callable[[Replies], None],
-        asks: Optional[Asks] = None, causes: Optional[Causes] = None) -> NoReturn:
+        asks: Optional[Asks] = None, causes: Optional[Causes] = None,
+        then: Optional[Then] = None) -> NoReturn:
     """Makes each of the calls once, whatever becomes of this run, and each try about what was
     looked at before the first. The first refusal ends it."""
     def exchange(entry: Entry, taken: bool) -> int:
@@ -55,7 +60,7 @@ def act(run: Run, calls: Sequence[Call], show: Callable[[Replies], None],
                 run.print_json(reply)
         else:
             show(replies)
-        return DONE
+        return then(entry, replies) if then else DONE
 
     made(run, calls, asks, exchange)
 
@@ -87,17 +92,35 @@ def made(run: Run, calls: Sequence[Call], asks: Optional[Asks],
          exchange: Callable[[Entry, bool], int]) -> NoReturn:
     """The answers are shown before the journal lets go of the keys, and with them the run ends."""
     entry = run.journal.entry(identity_of(run, calls), run.terminal.note)
-    taken = len(entry.keys) == len(calls) and not run.words.new_key
     try:
-        about = begin(run, entry, taken, asks)
-        if not taken:
-            tags = [about] * len(calls) if isinstance(about, str) else list(about)
-            entry.write(calls[0].what, str(run.desk.where), tags)
-        status = exchange(entry, taken)
+        status = exchange(entry, keyed(run, calls, asks, entry))
         run.terminal.flush()
         entry.over(status)
     finally:
         entry.close()
+
+
+def follow(run: Run, call: Call, key: str, asks: Asks, causes: Causes) -> dict[str, Any]:
+    """The reply to a call that comes of another's reply, and has this key."""
+    entry = run.journal.entry(identity_of(run, [call]), run.terminal.note)
+    try:
+        [reply] = exchange_all(run, [call], entry, keyed(run, [call], asks, entry, key), causes)
+        entry.done()
+        return reply
+    finally:
+        entry.close()
+
+
+def keyed(run: Run, calls: Sequence[Call], asks: Optional[Asks], entry: Entry,
+          key: str = "") -> bool:
+    """Whether the keys of the calls are taken up from a run without an answer. If not, new ones, or
+    this one, are on the disk, behind the questions."""
+    taken = len(entry.keys) == len(calls) and not run.words.new_key
+    about = begin(run, entry, taken, asks)
+    if not taken:
+        tags = [about] * len(calls) if isinstance(about, str) else list(about)
+        entry.write(calls[0].what, str(run.desk.where), tags, key)
+    return taken
 
 
 def begin(run: Run, entry: Entry, taken: bool, asks: Optional[Asks]) -> Union[str, Sequence[str]]:

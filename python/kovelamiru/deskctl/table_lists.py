@@ -1,12 +1,14 @@
 """The commands of lists, revocations and proposals, with their help."""
 from __future__ import annotations
 
+from ..described import LIMITS
 from .arguments import (Command, component_word, count_word, generation_word, hash_word,
                         number_word, stamp_word, word)
 from .importing import import_file
 from .listing import list_words
 from .lists import list_certificate, list_digest, raise_level, revoke, unlist
 from .proposals import ALL, confirm, drop, proposal, proposals
+from .reasons import explain
 
 PROPOSAL = word("number", metavar="N", type=number_word, help="the proposal's number")
 EXPECT = word("--expect", metavar="HEX", type=hash_word,
@@ -14,6 +16,8 @@ EXPECT = word("--expect", metavar="HEX", type=hash_word,
 NOT_MINE = word("--not-mine", action="store_true", help="those that others made")
 BARS = word("--bars", metavar="COUNT", type=count_word,
             help="go on only if it bars exactly so many known images")
+WHY = word("--why", metavar="TEXT",
+           help=f"the reason, for the minutes: at most {LIMITS['reason']} characters of ASCII")
 ALLOWING = "Listing (db), by one officer"
 REVOKING = "Revoking (dbx and the level), proposed by one officer and confirmed by another"
 LISTS: tuple[Command, ...] = (
@@ -47,37 +51,41 @@ LISTS: tuple[Command, ...] = (
          " entry's name typed."),
         "deskctl unlist certificate old-signer.pem"),
     Command(
-        "revoke", REVOKING, "IMAGE.. [--digest HEX] [--certificate FILE|HEX]",
+        "revoke", REVOKING, "IMAGE.. [--digest HEX] [--certificate FILE|HEX] [--why TEXT]",
         "propose to revoke images and certificates", revoke,
         (word("images", metavar="IMAGE", nargs="*",
               help="images: of each its digest, and the one that a signature holds"),
          word("--digest", metavar="HEX", action="append", default=[],
               help="an image's digest; not the SHA-256 of the file"),
          word("--certificate", metavar="FILE|HEX", action="append", default=[],
-              help="a certificate's file, or its TBSCertificate's SHA-256; no fingerprint")),
+              help="a certificate's file, or its TBSCertificate's SHA-256; no fingerprint"),
+         WHY),
         "officers",
         ("All that is named is one proposal (10,000 entries a proposal). Asks first where a"
          " SHA-256 is that of a whole file, of a whole certificate, or of the other kind, as far"
          " as the desk knows: such an entry bars nothing, for good."),
         "deskctl revoke grubx64.efi grubx64-installer.efi"),
     Command(
-        "raise", REVOKING, "NAME GENERATION --stamp N", "propose a higher generation of the level",
+        "raise", REVOKING, "NAME GENERATION --stamp N [--why TEXT]",
+        "propose a higher generation of the level",
         raise_level,
         (word("component", metavar="NAME", type=component_word, help="an SBAT component, as grub"),
          word("generation", metavar="GENERATION", type=generation_word,
               help="the least that is allowed"),
          word("--stamp", metavar="N", type=stamp_word, required=True,
-              help="the level's new stamp: ten digits, YYYYMMDDNN")), "officers",
+              help="the level's new stamp: ten digits, YYYYMMDDNN"), WHY), "officers",
         ("Asks first where the generation is above 65,535 or ten or more above the present one,"
          " or the stamp doesn't begin with a date within a year of today."),
         "deskctl raise grub 5 --stamp 2026112701"),
-    Command("import", REVOKING, "FILE [--stamp N] [--dry-run]", "propose a file of revocations",
+    Command("import", REVOKING, "FILE [--stamp N] [--why TEXT] [--dry-run]",
+            "propose a file of revocations",
             import_file,
             (word("file", metavar="FILE", help="the file"),
              word("--stamp", metavar="N", type=stamp_word,
                   help="for a CSV that raises generations: the new stamp, YYYYMMDDNN"),
              word("--arch", metavar="A",
                   help="only images of this architecture, where a list names it: x64, arm64, .."),
+             WHY,
              word("--dry-run", action="store_true", help="say what is in it, and send nothing")),
             "officers",
             ("The kinds, found by their bytes: signature lists; the same as an authenticated update"
@@ -107,4 +115,11 @@ LISTS: tuple[Command, ...] = (
          " and goes on once you have typed how many these are, if it is still what was shown."
          " Nothing takes a Confirm back."), "deskctl confirm 1"),
     Command("drop", REVOKING, "N", "close a proposal without effect", drop, (PROPOSAL,),
-            "officers", "On a terminal it asks first.", "deskctl drop 1"))
+            "officers", "On a terminal it asks first.", "deskctl drop 1"),
+    Command("explain", REVOKING, "N TEXT", "say why a proposal is made, or shouldn't be", explain,
+            (PROPOSAL, word("text", metavar="TEXT",
+                            help=f"1 to {LIMITS['reason']} characters of ASCII")), "officers",
+            ("The minutes keep it, for good; it changes nothing else, and a proposal of any state"
+             " takes as many as officers give. `deskctl proposal N`, the question of a Confirm and"
+             " `deskctl why` show them. --why gives the first one; on a terminal it is asked for."),
+            "deskctl explain 1 'CVE-2023-40547, see https://example.org/15.8'"))
