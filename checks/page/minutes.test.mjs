@@ -6,6 +6,7 @@ import { test } from 'node:test';
 import { text } from './cases.mjs';
 import { forgetMinutes, minutes, readOn } from '../../page/desk/calls.js';
 import { answerOf } from '../../page/desk/answering.js';
+import { reasonsIn, reasonsOf } from '../../page/desk/reasons.js';
 import { Story, namesOf } from '../../page/desk/why.js';
 import { minuteOf, sentenceOf, timeOf } from '../../page/formats/sentences.js';
 
@@ -76,7 +77,41 @@ test('an image by its facts is the one of its file', () => {
 
 test('of a proposal each call is told, whatever it names', () => {
     const calls = [1, 2, 3, 4, 5, 6].map((number) => callsOf({ proposal: String(number) }));
-    assert.deepEqual(calls, [[8, 10], [9, 14], [12, 13], [15], [17], []]);
+    assert.deepEqual(calls, [[8, 10], [9, 14], [12, 13], [15, 22], [17, 21, 23], []]);
+});
+
+// ---- the reasons of proposals
+
+for (const [number, told] of Object.entries(cases.reasons)) test(`reasons of ${number}`, () => {
+    const found = reasonsIn(history).get(Number(number)) ?? [];
+    assert.deepEqual(found.map(({ officer, text: said }) => [officer, said]), told);
+});
+
+test('reasons are read from the proposal’s own call on, the newest lines first', async () => {
+    const all = Array.from({ length: 4200 }, (_, at) => line(at, 'ann', 'withdraw 1', 'withdrawn 1'));
+    all[1500] = line(1500, 'olga', 'revoke-digest x', 'proposed 1');
+    for (const at of [1499, 1501, 3300, 4199]) {
+        all[at] = line(at, 'olga', `explain 1 at ${at}`, 'explained 1');
+    }
+    const asked = [];
+    globalThis.fetch = async (path) => {
+        asked.push(path);
+        const first = Number(path.split('/')[2]);
+        const part = all.slice(first - 1, first + 999).map((one) => `${one}\n`).join('');
+        return { status: 200, text: async () => part, json: async () => ({ changes: 4200 }) };
+    };
+    const { value } = await reasonsOf(1);
+    assert.deepEqual(value.map(({ text: said }) => said), [1499, 1501, 3300, 4199].map(
+        (at) => `at ${at}`,
+    ));
+    const parts = ['/changes', '/minutes/3201', '/minutes/2201', '/minutes/1201'];
+    assert.deepEqual(asked, parts);
+});
+
+test('a desk that is older than reasons has none', async () => {
+    const none = JSON.stringify({ name: 'NoRoute', refused: 53 });
+    globalThis.fetch = async () => ({ status: 404, text: async () => none });
+    assert.deepEqual(await reasonsOf(1), { kind: 'value', value: [] });
 });
 
 // ---- the minutes are read on from where they ended, the newest first

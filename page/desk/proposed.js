@@ -1,7 +1,8 @@
-// An officer's own open proposals, and when proposals were made. It is kept with what waits.
+// An officer's own open proposals, when proposals were made, and why. It is kept with what waits.
 
 import { get } from './api.js';
 import { listed } from './lists.js';
+import { reasonsIn } from './reasons.js';
 import { me } from './session.js';
 import { kept } from './waiting.js';
 import { timeOf } from '../formats/sentences.js';
@@ -9,7 +10,7 @@ import { timeOf } from '../formats/sentences.js';
 /** @typedef {import('./types.js').ProposalRow} ProposalRow */
 /** @typedef {import('./waiting.js').Inbox} Inbox */
 
-/** How many of the newest calls are read for when proposals were made. */
+/** How many of the newest calls are read for when proposals were made, and why. */
 const NEWEST = 500;
 
 /** @param {Inbox} beside */
@@ -22,7 +23,9 @@ const nothing = (beside) => ({
     oldest: 1,
     /** @type {Map<number, string>} by the clocks of their officers */
     times: new Map(),
-    /** The number of the last call that was read for that. */
+    /** @type {Map<number, import('./reasons.js').Reason[]>} */
+    reasons: new Map(),
+    /** The number of the last call that was read for these. */
     timed: 0,
 });
 
@@ -51,21 +54,30 @@ export async function ownProposals() {
 }
 
 // When proposals were made, by the newest calls; what is known where no more can be read.
-/** @returns {Promise<Map<number, string>>} */
-export async function times() {
+export const times = async () => (await ofCalls()).times;
+
+// The reasons of proposals among the newest calls, likewise.
+export const lately = async () => (await ofCalls()).reasons;
+
+async function ofCalls() {
     const into = current();
+    const { timed } = into;
     const { changes, waiting } = into.beside;
     const rows = [...(waiting?.proposals ?? []), ...(into.own ?? [])];
-    const isKnown = rows.every(({ number }) => into.times.has(number));
-    if (isKnown || changes <= into.timed) return into.times;
-    const first = Math.max(1, into.timed + 1, changes - NEWEST + 1);
+    if (rows.length === 0 || changes <= timed) return into;
+    const first = Math.max(1, timed + 1, changes - NEWEST + 1);
     const answer = await get(`/minutes/${first}`, 'text');
-    if (answer.kind !== 'value') return into.times;
-    for (const line of answer.value.split('\n').slice(0, -1)) {
+    if (answer.kind !== 'value' || into.timed !== timed) return into;
+    // (what came since is read the next time)
+    const lines = answer.value.split('\n').slice(0, changes - first + 1);
+    for (const [number, some] of reasonsIn(lines)) {
+        into.reasons.set(number, [...(into.reasons.get(number) ?? []), ...some]);
+    }
+    for (const line of lines) {
         const [, , key, , reply] = line.split('\t');
         const made = /^proposed ([0-9]+)$/.exec(reply ?? '');
         if (made) into.times.set(Number(made[1]), timeOf(key));
     }
     into.timed = changes;
-    return into.times;
+    return into;
 }

@@ -7,6 +7,7 @@ import {
     sure,
 } from './dom.js';
 import { digest, proposalLink } from './marks.js';
+import { explainMade, whyField } from './reasons.js';
 import { knownOf } from '../desk/doubts.js';
 import { listed } from '../desk/lists.js';
 import { openDoubts, openProposals } from '../desk/proposals.js';
@@ -25,6 +26,9 @@ import { grouped } from '../formats/words.js';
  *   | { named: Named, doubts: (all: Known) => Doubt[], command: () => Command }} Made
  * @typedef {import('../desk/proposals.js').Named} Named
  */
+
+/** The label of the field for a reason. */
+export const WHY = 'Why (if you like)';
 
 /** How many doubts are shown. */
 const SHOWN = 12;
@@ -63,8 +67,9 @@ export async function settled(doubts, yes = wire.questions.propose.button) {
  * @param {() => Command} make
  * @param {HTMLElement} said behind the form
  * @param {import('./act.js').Control[]} off
+ * @param {string} reason sent behind it, if there is one
  */
-export async function propose(named, doubts, make, said, off) {
+export async function propose(named, doubts, make, said, off, reason) {
     const others = await openProposals(named);
     if (others.kind !== 'value') return fill(said, refusalBox(others));
     if (!(await settled([...doubts, ...openDoubts(named, others.value)]))) return undefined;
@@ -81,12 +86,14 @@ export async function propose(named, doubts, make, said, off) {
     const onclick = () => dispatchEvent(new HashChangeEvent('hashchange'));
     const another = h('a', { href: location.hash, onclick }, 'propose something else');
     const look = proposalLink(proposal, `Look at proposal ${proposal}`);
+    const why = h('div', {});
     fill(said, box(
         'good',
         p(strong(`This is proposal ${proposal}. `), next),
         p(look, ' or ', another, '.'),
-    ));
-    return look.focus();
+    ), why);
+    look.focus();
+    return reason ? explainMade(proposal, reason, why) : undefined;
 }
 
 // What a form's button does, once at a time: a press meanwhile does nothing, and the button keeps
@@ -125,18 +132,20 @@ export const formPart = (title, onsubmit, body, said) => (
  */
 export function form(title, body, make) {
     const said = answers();
+    const why = whyField(WHY);
     const go = submitButton('Propose');
     const submit = onceAtATime(async () => {
         fill(said);
         for (const one of place.querySelectorAll('[aria-invalid]')) faultAt(one);
         const made = make();
-        if ('faults' in made) return faulty(...made.faults);
+        if ('faults' in made) return faulty(...made.faults, why.fault());
+        if (faulty(why.fault())) return undefined;
         fill(said, quiet('Reading from the desk…'));
         const all = await known();
         fill(said);
         if ('kind' in all) return fill(said, refusalBox(all));
-        return propose(made.named, made.doubts(all), made.command, said, [go]);
+        return propose(made.named, made.doubts(all), made.command, said, [go], why.text());
     });
-    const place = formPart(title, submit, [body, buttons(go)], said);
+    const place = formPart(title, submit, [body, why.place, buttons(go)], said);
     return place;
 }

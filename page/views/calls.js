@@ -33,6 +33,7 @@ const SHOWN = {
     COMPONENT: (value) => link(address({ component: value }), value),
     TITLE: (value) => h('q', {}, value),
     NOTE: (value) => h('q', {}, value),
+    REASON: (value) => h('q', {}, value),
 };
 
 // The beginning of a SHA-256, which asks why.

@@ -8,10 +8,12 @@ import { answers, box, button, done, fill, h, p, quiet, status, strong, sure } f
 import { harmed, impactBox, named } from './impact.js';
 import { nextPart } from './inbox.js';
 import { shortly } from './items.js';
+import { reasonList } from './reasons.js';
 import { get } from '../desk/api.js';
 import { itemDoubts } from '../desk/doubts.js';
 import { matching } from '../desk/answers.js';
 import { Command } from '../desk/journal.js';
+import { reasonsOf } from '../desk/reasons.js';
 import { changed } from '../desk/standing.js';
 
 /** @typedef {import('../desk/types.js').Impact} Impact */
@@ -20,7 +22,8 @@ import { changed } from '../desk/standing.js';
 
 /**
  * What is shown of an open proposal before a Confirm.
- * @typedef {{ proposal: Proposal, impact: Impact, doubts: Doubt[] }} Seen
+ * @typedef {{ proposal: Proposal, impact: Impact, doubts: Doubt[],
+ *   reasons: import('../desk/reasons.js').Reason[] }} Seen
  */
 
 /** @param {Proposal} proposal @param {import('../desk/doubts.js').Known} all */
@@ -33,12 +36,16 @@ export function proposalDoubts(proposal, all) {
 /** @param {number} number @returns {Promise<Seen | null>} */
 async function seen(number) {
     changed();
-    const [proposal, impact, all] = await Promise.all(
-        [get(`/proposals/${number}`), get(`/proposals/${number}/impact`), known()],
-    );
+    const [proposal, impact, all, reasons] = await Promise.all([
+        get(`/proposals/${number}`),
+        get(`/proposals/${number}/impact`),
+        known(),
+        reasonsOf(number),
+    ]);
     if (proposal.kind !== 'value' || impact.kind !== 'value' || 'kind' in all) return null;
+    if (reasons.kind !== 'value') return null;
     const doubts = proposalDoubts(proposal.value, all);
-    return { proposal: proposal.value, impact: impact.value, doubts };
+    return { proposal: proposal.value, impact: impact.value, doubts, reasons: reasons.value };
 }
 
 /** @param {any} one @param {any} other */
@@ -80,7 +87,7 @@ export function confirmation(shown, off, again) {
 /** @param {Seen | null} now what was read instead of what was shown */
 function otherwise(now) {
     const why = now
-        ? 'What it names or what it would do isn’t what was shown.'
+        ? 'What it names, what it would do or what officers say of it isn’t what was shown.'
         : 'It couldn’t be read once more.';
     const told = `${why} Look at it anew, and decide again.`;
     return status(box('care', p(strong('Not confirmed. '), told)));
@@ -88,13 +95,14 @@ function otherwise(now) {
 
 // The second question before a Confirm.
 /** @param {Seen} now */
-function lastLook({ proposal, impact, doubts }) {
+function lastLook({ proposal, impact, doubts, reasons }) {
     const doubt = box('care', p(strong('Is that what was meant?')), doubtList(doubts));
     const desk = h('strong', { class: 'desk' }, location.host);
     return sure(
         `Confirm proposal ${proposal.number} for good?`,
         [
             p('At the desk ', desk, '. ', shortly(proposal)),
+            reasonList(reasons),
             impactBox(impact),
             harmed(impact),
             doubts.length > 0 ? doubt : null,

@@ -1,12 +1,13 @@
 // An import, with a look at what is in the file before it is proposed.
 
 import { refusalBox } from './act.js';
-import { formPart, known, onceAtATime, propose } from './asking.js';
+import { WHY, formPart, known, onceAtATime, propose } from './asking.js';
 import {
     answers, box, buttons, faulty, field, fill, h, p, status, strong, submitButton,
 } from './dom.js';
 import { fileField, noFile } from './files.js';
 import { STAMP_FAULT, isStamp, numberLine } from './numbers.js';
+import { whyField } from './reasons.js';
 import { stampDoubts, stampOf } from '../desk/generations.js';
 import { look } from '../desk/imports.js';
 import { Command } from '../desk/journal.js';
@@ -36,6 +37,7 @@ export function importForm() {
     const stamp = numberLine();
     const stampField = field('Stamp', stamp, STAMP_HINT);
     stampField.hidden = true;
+    const why = whyField(WHY);
     /** @type {{ look: Look, name: string, present: number } | null} */
     let found = null;
     let turn = 0;
@@ -64,12 +66,12 @@ export function importForm() {
         if (faulty([input, found ? wrong : none]) || !found) return undefined;
         const { look: { named, asksStamp, raises, doubts, path, body }, name, present } = found;
         const isOdd = asksStamp && !isStamp(stamp.value);
-        if (faulty([stamp, isOdd ? STAMP_FAULT : ''])) return undefined;
+        if (faulty([stamp, isOdd ? STAMP_FAULT : ''], why.fault())) return undefined;
         const own = asksStamp && raises ? stampDoubts(Number(stamp.value), present) : [];
         const fields = asksStamp ? { 'Desk-Stamp': stamp.value } : undefined;
         const make = () => new Command(`Import of ${name}`, path, body, fields);
-        return propose(named, [...doubts, ...own], make, said, [go, input]);
+        return propose(named, [...doubts, ...own], make, said, [go, input], why.text());
     });
-    const body = [place, inside, stampField, buttons(go)];
+    const body = [place, inside, stampField, why.place, buttons(go)];
     return formPart('Import revocations', submit, body, said);
 }

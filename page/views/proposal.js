@@ -11,11 +11,13 @@ import { impactPart } from './impact.js';
 import { nextPart } from './inbox.js';
 import { itemsPart } from './items.js';
 import { badge } from './marks.js';
+import { explainForm, reasonList } from './reasons.js';
 import { closedBy } from './why.js';
 import { get } from '../desk/api.js';
 import { matching } from '../desk/answers.js';
 import { Command } from '../desk/journal.js';
 import { plainQuestion } from '../desk/questions.js';
+import { reasonsOf } from '../desk/reasons.js';
 import { explained } from '../desk/refusals.js';
 import { me } from '../desk/session.js';
 import { wire } from '../formats/wire.js';
@@ -45,6 +47,8 @@ async function whole(place, proposal) {
     const items = h('div', {}, reading());
     const impact = h('div', {}, isOpen ? reading() : null);
     const decision = h('div', {});
+    const reasons = h('div', {}, reading());
+    const again = (/** @type {Child[]} */ ...said) => show(place, number, ...said);
     const told = isOpen
         ? 'It changes nothing until another officer confirms it.'
         : wire.words.proposals[state]?.means ?? '';
@@ -52,10 +56,12 @@ async function whole(place, proposal) {
     place.append(
         p(badge(state), ` ${officer} proposed it. ${told} `, why),
         isOpen ? '' : closedBy(number),
+        section('Why', reasons, explainForm(proposal, again)),
         impact,
         section('What it names', items),
         decision,
     );
+    reasonsOf(number).then((answer) => fill(reasons, whyPart(answer)));
     const impactOf = isOpen ? get(`/proposals/${number}/impact`) : null;
     const [all, looked] = await Promise.all([known(), impactOf]);
     const isKnown = !('kind' in all);
@@ -64,7 +70,13 @@ async function whole(place, proposal) {
     const can = looked.kind === 'value';
     const doubts = isKnown ? doubtPart(proposalDoubts(proposal, all)) : null;
     fill(impact, can ? impactPart(looked.value) : refusedNow(looked), doubts);
-    fill(decision, actions(proposal, can, isKnown, (...said) => show(place, number, ...said)));
+    fill(decision, actions(proposal, can, isKnown, again));
+}
+
+/** @param {import('../desk/types.js').Answer<import('../desk/reasons.js').Reason[]>} answer */
+function whyPart(answer) {
+    if (answer.kind !== 'value') return refusalBox(answer);
+    return reasonList(answer.value) ?? p('Nobody said why.');
 }
 
 /** @param {import('../desk/types.js').NoValue} answer */

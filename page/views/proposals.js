@@ -4,10 +4,11 @@ import { read } from './act.js';
 import { button, field, h, heading, quiet } from './dom.js';
 import { named } from './impact.js';
 import { badge, proposalLink } from './marks.js';
+import { inShort } from './reasons.js';
 import { choices, paged } from './table.js';
 import { listed } from '../desk/lists.js';
 import { DESCRIBED, described } from '../desk/proposals.js';
-import { ownProposals, times } from '../desk/proposed.js';
+import { lately, ownProposals, times } from '../desk/proposed.js';
 import { proposalMatches } from '../desk/search.js';
 import { me, withYou } from '../desk/session.js';
 import { standing } from '../desk/standing.js';
@@ -29,16 +30,22 @@ export function proposalsView(place) {
 
 // What a row says of a proposal, whose words come later: the same elements each time.
 function marksOf() {
-    /** @type {Map<number, { link: HTMLElement, age: HTMLElement }>} */
+    /** @type {Map<number, Record<'link' | 'age' | 'why', HTMLElement>>} */
     const all = new Map();
     const of = (/** @type {ProposalRow} */ proposal) => {
         const { number } = proposal;
-        const made = all.get(number)
-            ?? { link: proposalLink(number, named(proposal)), age: h('span') };
+        const made = all.get(number) ?? {
+            link: proposalLink(number, named(proposal)),
+            age: h('span'),
+            why: h('div', { class: 'quiet' }),
+        };
         all.set(number, made);
         return made;
     };
-    const words = (/** @type {number} */ number) => all.get(number)?.link.textContent ?? '';
+    const words = (/** @type {number} */ number) => {
+        const { link, why } = all.get(number) ?? {};
+        return `${link?.textContent ?? ''} ${why?.textContent ?? ''}`;
+    };
     return { of, words };
 }
 
@@ -52,7 +59,12 @@ async function tellMore(place, open, marks) {
     await look();
     await ownProposals();
     const made = await times();
-    for (const row of open) marks.of(row).age.textContent = ageWords(made.get(row.number) ?? '');
+    const said = await lately();
+    for (const row of open) {
+        const { age, why } = marks.of(row);
+        age.textContent = ageWords(made.get(row.number) ?? '');
+        why.textContent = inShort(said.get(row.number));
+    }
     const now = await standing();
     for (const row of now.kind === 'value' ? open.slice(0, DESCRIBED) : []) {
         if (!place.isConnected || now.kind !== 'value') return;
@@ -72,10 +84,10 @@ function list(place, proposals) {
         empty: 'No proposal is like this. Choose another state, or change the text.',
         row: (/** @type {ProposalRow} */ proposal) => {
             const { number, officer, state } = proposal;
-            const { link, age } = marks.of(proposal);
+            const { link, age, why } = marks.of(proposal);
             return [
                 ['number', number],
-                ['title', link],
+                ['title', link, why],
                 ['from', withYou(officer)],
                 badge(state),
                 ['from', age],

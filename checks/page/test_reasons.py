@@ -1,0 +1,95 @@
+"""Reasons at the page: beside a proposal and behind it, in its view, before a Confirm, in the list
+and in History."""
+from __future__ import annotations
+
+from checks.page.plain_day import STAMP
+from checks.page.site import Site
+from checks.support.browser import Browser
+from checks.support.messages import token
+from checks.support.says import expect
+
+BECAUSE = "CVE-2023-40547, see https://example.org/15.8"
+WHY, MORE = "Why (if you like)", "Why, or why not"
+HAS = "The minutes have your reason."
+
+
+def explains(site: Site) -> list[str]:
+    rows = [line.split("\t") for line in site.minutes().decode().splitlines()]
+    return [f"{row[1]}: {row[3]}" for row in rows if row[3].startswith("explain ")]
+
+
+def test_a_morning_with_reasons(browser: Browser, site: Site) -> None:
+    """A reason that comes while the last question is open is shown before another one."""
+    browser.sign_in(token("olga"))
+    browser.go("propose")
+    browser.fill("Digests, one a line", "5" * 64)
+    browser.fill(WHY, "caf\u00e9")
+    browser.press("Propose")
+    browser.sees("The reason has “é”.")
+    browser.fill(WHY, f" {BECAUSE} ")
+    browser.press("Propose")
+    browser.sees("This is proposal 1.", HAS)
+    browser.go("propose/level")
+    browser.sees("The level has the stamp")
+    for label, text in (("Component", "grub"), ("Generation", "3"), ("Stamp", f"{STAMP}05")):
+        browser.fill(label, text)
+    browser.fill(WHY, "grub 2 loads anything")
+    browser.press("Propose", "Propose it all the same")
+    browser.sees("This is proposal 2.", HAS)
+    path = site.room / "one.csv"
+    path.write_text(f"kind,value,generation\nsha256,{'6' * 64},\n", encoding="ascii")
+    browser.go("propose/import")
+    browser.drop("File", path)
+    browser.fill(WHY, "of the other vendor")
+    browser.press("Propose this import")
+    browser.sees("This is proposal 3.", HAS)
+    browser.go("proposals")
+    browser.sees(BECAUSE, "grub 2 loads anything", "of the other vendor")
+    browser.sign_in(token("otto"))
+    browser.go("proposals/1")
+    browser.sees("olga, 20", BECAUSE)
+    browser.press("Explain", tag="summary")
+    browser.press("Explain")
+    browser.sees("Say why.")
+    browser.fill(MORE, "I compared it")
+    browser.press("Explain")
+    browser.sees("Explained.", "otto, 20", "I compared it")
+    browser.press("Confirm…")
+    question = "Confirm proposal 1 for good?"
+    browser.asks(question, BECAUSE, "I compared it")
+    site.does("olga", "/proposals/1/explain", {"text": "two days more"})
+    browser.press("Confirm for good")
+    browser.sees("Not confirmed.", "two days more")
+    browser.press("Confirm…")
+    browser.asks(question, "two days more")
+    browser.press("Confirm for good")
+    browser.sees("New in force: 1 digest.", BECAUSE)
+    browser.go("history")
+    browser.sees("olga explained proposal 1:", BECAUSE)
+    browser.go("history/proposal/1")
+    browser.sees("otto explained proposal 1:", "I compared it", "otto confirmed proposal 1")
+    expect(explains(site), [
+        f"olga: explain 1 {BECAUSE}", "olga: explain 2 grub 2 loads anything",
+        "olga: explain 3 of the other vendor", "otto: explain 1 I compared it",
+        "olga: explain 1 two days more"], "the reasons")
+
+
+def test_a_reason_that_was_lost_goes_once(browser: Browser, site: Site) -> None:
+    browser.sign_in(token("olga"))
+    browser.tries_at_once()
+    browser.blocks("*/explain")
+    for digit, button in (("5", "Ask again"), ("6", "Give up")):
+        browser.go("inbox")
+        browser.go("propose")
+        browser.fill("Digests, one a line", digit * 64)
+        browser.fill(WHY, BECAUSE)
+        browser.press("Propose")
+        browser.sees("no answer.")
+        browser.blocks(*["*/explain"] * (button == "Give up"))
+        browser.press(button)
+        browser.sees(HAS if button == "Ask again" else "without your reason")
+        browser.blocks("*/explain")
+    browser.blocks()
+    browser.go("proposals/2")
+    browser.sees("Nobody said why.")
+    expect(explains(site), [f"olga: explain 1 {BECAUSE}"], "the reasons")
