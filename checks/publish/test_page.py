@@ -19,7 +19,7 @@ from checks.support.images import digest, sha256
 from checks.support.messages import token
 from checks.support.program import Program
 from checks.support.says import expect
-from checks.support.steps import lists, submits, takes
+from checks.support.steps import explains, lists, submits, takes
 from checks.support.tools import EXAMPLES, ROOT, needs
 
 pytestmark = pytest.mark.needs("openssl", "ssh-keygen")
@@ -83,6 +83,23 @@ def test_they_are_those_of_the_lists_and_tell_what_came(desk: Program, page_stag
     reads(two, one, PRIVATE)
     page.publish(0, ": published", *KEY, "--public-minutes")
     reads_now(page)
+
+
+def test_reasons_are_in_the_page_alone_where_they_are_public(page: Place) -> None:
+    """Of what was confirmed since, and without a name; a reason of another proposal isn't there."""
+    for key, given, text in (
+        ("r1", 6, "CVE-2023-40547 <b>"), ("r2", 6, "two of them"), ("r3", 3, "olga's secret")
+    ):
+        page.does(explains("olga", f"k-secret-{key}", given, text))
+    page.publish(0, ": published", *KEY, "--public-reasons")
+    reads_now(page)
+    shown = (page.link.resolve() / "index.html").read_text()
+    assert "<li>120 new digests: CVE-2023-40547 &lt;b&gt;; two of them</li>" in shown, shown
+    page.does(explains("otto", "k-secret-r4", 6, "a third"))
+    page.publish(0, ": published", *KEY)
+    for name in ("index.html", "dbx.json"):
+        shown = (page.link.resolve() / name).read_text()
+        expect([one for one in ("CVE", "third", "Why") if one in shown], [], name)
 
 
 def test_two_runs_with_one_date_make_the_same_bytes(page: Place) -> None:

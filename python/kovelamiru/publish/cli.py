@@ -181,6 +181,8 @@ OPTIONS: tuple[tuple[str, dict[str, Any]], ...] = (
     ("--first", {"action": "store_true", "help": "FOLDER isn't there yet"}),
     ("--public-minutes", {"action": "store_true", "help": "everybody may read the minutes: notes,"
                           " open proposals, SHA-256 of tokens"}),
+    ("--public-reasons", {"action": "store_true", "help": "index.html has the reasons of what was"
+                          " confirmed since the last time, without names"}),
     ("--keep", {"metavar": "N", "type": int, "default": 10, "help": "how many folders stay (10)"}),
     ("--program", {"default": "desk", "help": "desk(1)"}))
 

@@ -104,7 +104,7 @@ def pages(words: argparse.Namespace, files: dict[str, bytes], found: Found, now:
     """What people and programs read of these files."""
     updates = [name for name in files if name.endswith(".auth")]
     made = Publication(words.owner, found, now, files["audit.txt"], files[SHIM], bool(words.key),
-                       words.public_minutes, updates, last)
+                       words.public_minutes, words.public_reasons, updates, last)
     return {PAGE: index(made), JSON: dbx_json(made)}
 
 

@@ -2,8 +2,9 @@
 of the lists that it publishes.
 
 They aren't proved, and nothing is decided by them. They have no word of the minutes: no name, no
-title, no note, no token. What a person typed and is in them, the names of components, becomes no
-markup. The same lists, date and last publication give the same bytes.
+title, no note, no token, and no reason without --public-reasons, which index.html alone shows. What
+a person typed and is in them, as the names of components, becomes no markup. The same lists, date
+and last publication give the same bytes.
 """
 from __future__ import annotations
 
@@ -19,6 +20,7 @@ from ..shim import without_body
 from ..siglists import guid
 from ..words import counted
 from .desk import Found, audit_of, entries, level_of
+from .reasons import why
 from .sums import day
 
 # An entry of dbx by its kind and its digest.
@@ -80,6 +82,7 @@ class Publication:
     shim: bytes
     signed: bool
     public_minutes: bool
+    public_reasons: bool
     updates: Sequence[str]
     before: Optional[Before]
 
@@ -275,7 +278,8 @@ def new(now: Publication) -> list[str]:
         return []
     old = {entry for entry, _ in named(now.before.found.dbx)}
     came = [entry for entry, _ in named(now.found.dbx) if entry not in old]
-    made = [f"<h2>New in dbx since {moment(now.before.date)}</h2>"]
+    made = why(now.found.minutes, now.before.found.calls) if now.public_reasons else []
+    made.append(f"<h2>New in dbx since {moment(now.before.date)}</h2>")
     if not came:
         return [*made, "<p>Nothing.</p>"]
     for kind, one in (("sha256", "image"), ("x509_sha256", "certificate")):
