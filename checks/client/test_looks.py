@@ -74,7 +74,7 @@ def test_a_revoked_issuer_is_told_though_it_isnt_listed_any_more(office: Office)
     office.refuses("olga", "list-certificate ec.der", ISSUER, NOT_RSA)
     otto.does("confirm 2 --yes")
     office.refuses("olga", "list-certificate leaf.der", REVOKED, ISSUER)
-    # One that isn't revoked, of nobody who is.
+    # One that is neither revoked nor issued by a revoked one.
     assert "!" not in olga.run("list-certificate other.der").err
     office["ann"].does(
         "facts unsigned.efi two.efi", "dbx         a certificate that it carries is revoked",

@@ -1,5 +1,5 @@
 """What the pages print is typed as it stands: the day of README.md by deskctl and that of
-docs/FORMATS.md by curl, the job, the loop and the evening of client/README.md. A foreign signature
+docs/FORMATS.md by curl, the loop and the evening of client/README.md. A foreign signature
 that carries a listed certificate is allowed by the desk, and not returned by the loop."""
 from __future__ import annotations
 
@@ -80,10 +80,13 @@ def test_the_days_leave_the_same_minutes_but_for_keys_and_files(desk: Program) -
 
 # ---- a build system's job and a signing machine's loop
 
-JOB, LOOP, EVENING = (
+LOOP, EVENING = (
     "".join(f"{line}\n" for line in printed("client/README.md", title))
-    for title in ("A build system's job", "A signing machine's loop", "An embargo's evening")
+    for title in ("A signing machine's loop", "An embargo's evening")
 )
+# The job of an upload of one image.
+JOB = "".join(f"{line}\n" for line in printed("docs/TOOLS.md", "A build system")).replace(
+    "vmlinuz-*", "shimx64.efi").replace("linux $VERSION", "shim $VERSION $ARCH")
 SBAT = with_text(PLAIN, b"sbat,1,SBAT Version,sbat,1,u\n")
 SIGNING = pytest.mark.needs("openssl", "osslsigncode", "sbsign")
 
