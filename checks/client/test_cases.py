@@ -16,7 +16,7 @@ from checks.support.deskctl import Office
 from checks.support.says import expect
 from checks.support.tools import ROOT
 from checks.support.wire import REFUSALS, wire
-from kovelamiru import compare, doubts, pem, pkcs7, refusals, revocations, signer, standing
+from kovelamiru import compare, doubts, pe, pem, pkcs7, refusals, revocations, signer, standing
 from kovelamiru.answers import Request, shaped
 from kovelamiru.beside import level_lines
 from kovelamiru.certificates import Certificate, certificate_in
@@ -223,6 +223,12 @@ def test_it_is_said_what_each_signature_is_over(case: Case) -> None:
     names = pkcs7.issuer_names(found)
     by = [name for name in ("ca", "between", "leaf", "low", "other") if part(name).of in names]
     expect(sorted(by), sorted(case["issuers"]), "who issued the signers")
+
+
+@each([case for case in LOOKS["signatures"] if not case["name"].startswith("the digest as")])
+def test_an_images_digests_are_worked_out(case: Case) -> None:
+    image = row_bytes(LOOKS["parts"], case["bytes"])
+    expect(pe.authenticode(image), (case["digest"], case["signing"]), "the digests")
 
 
 @each(LOOKS["listings"])

@@ -8,6 +8,7 @@ import pytest
 from checks.support.between import BUSY, HTML, Between, answer
 from checks.support.cases import row_bytes
 from checks.support.deskctl import Office
+from checks.support.images import PLAIN, authenticode, signing, with_text
 from checks.support.messages import refused
 from checks.support.says import expect
 from checks.support.wire import wire
@@ -27,6 +28,16 @@ REVOKED = "! It is revoked at this desk"
 ISSUER = "A certificate with its issuer's name is revoked: O=A distribution, CN=Image CA"
 SIGNER = "its signer's issuer is listed; the desk compares what the image carries"
 OWN = "! You proposed it yourself"
+
+
+def test_what_the_desk_cant_read_is_revoked_by_its_digests(office: Office) -> None:
+    """An SBAT line of five fields: firmware reads none, and boots it."""
+    image = with_text(PLAIN, b"sbat,1,a,b,c\n") + bytes(5)
+    office.file("memtest.efi", image)
+    words = f"revoke --digest {authenticode(image)} --digest {signing(image)}"
+    for command in ("facts", "revoke"):
+        office.refuses("olga", f"{command} memtest.efi", "12 SbatRow", f"deskctl {words}", status=1)
+    office["olga"].does(f"{words} --yes", "proposal 1 proposed")
 
 
 @pytest.fixture(autouse=True)

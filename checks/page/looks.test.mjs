@@ -6,6 +6,7 @@ import { json, plain, rowBytes } from './cases.mjs';
 import { differences, entries, likeness } from '../../page/desk/compare.js';
 import { imageDoubts, signerDoubts, withName } from '../../page/desk/signer.js';
 import { certificateOf, subjectOf } from '../../page/formats/certificates.js';
+import { authenticode } from '../../page/formats/pe.js';
 import {
     algorithmDoubt, issuerNames, signatureWords, signaturesOf,
 } from '../../page/formats/pkcs7.js';
@@ -67,6 +68,10 @@ for (const { name, bytes, says, holds, misses, issuers, ...image } of signatures
         const all = ['between', 'ca', 'leaf', 'low', 'other'];
         const those = await Promise.all(all.map(certificate));
         assert.deepEqual(all.filter((_, at) => named.includes(those[at].of)), [...issuers].sort());
+    });
+    if (!name.startsWith('the digest as')) test(`${name}: its digests`, async () => {
+        const { digest, signing } = image;
+        assert.deepEqual(await authenticode(rowBytes(bytes, parts)), [digest, signing]);
     });
     test(`${name}: no beginning throws`, () => {
         const whole = rowBytes(bytes, parts);

@@ -4,14 +4,16 @@
 import { refusalBox } from './act.js';
 import { whyLink } from './calls.js';
 import { box, h, p, quiet, strong } from './dom.js';
-import { requestLink } from './marks.js';
+import { digest, requestLink } from './marks.js';
 import { sendingBar } from './sending.js';
 import { table } from './table.js';
 import { post } from '../desk/api.js';
 import { differences, entries, likeness, sameFile } from '../desk/compare.js';
 import { withName } from '../desk/signer.js';
 import { standing } from '../desk/standing.js';
+import { authenticode } from '../formats/pe.js';
 import { algorithmDoubt, signatureWords, signaturesOf } from '../formats/pkcs7.js';
+import { wire } from '../formats/wire.js';
 
 /** @typedef {import('./files.js').Chosen} Chosen */
 /** @typedef {import('../desk/types.js').Facts} Facts */
@@ -31,6 +33,20 @@ export async function postImage(path, chosen, place) {
 export function noFacts(answer) {
     if (answer.kind !== 'stopped') return refusalBox(answer);
     return box('note', 'Stopped. The desk keeps nothing of the image.');
+}
+
+/** Refusals of an image whose layout is good: its digests are there, though it can’t be judged. */
+const UNREAD = ['Der', 'TwoSbat', 'SbatRow', 'TooLong'];
+
+// Why the desk told nothing of an image, and how it is revoked all the same.
+/** @param {import('../desk/types.js').NoValue} answer @param {Chosen} chosen */
+export async function unreadPart(answer, { bytes }) {
+    const isUnread = answer.kind === 'refused' && UNREAD.includes(answer.name);
+    const digests = isUnread ? await authenticode(bytes).catch(() => []) : [];
+    const rows = [...new Set(digests)].filter((one) => one !== '')
+        .map((one) => h('li', {}, digest(one, 'the digest')));
+    const part = box('note', p(wire.words.brought.unread), h('ul', {}, rows));
+    return [noFacts(answer), rows.length > 0 ? part : null];
 }
 
 // The certificates that signatures carry, each with its name.

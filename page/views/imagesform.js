@@ -4,7 +4,7 @@ import { read } from './act.js';
 import { form } from './asking.js';
 import { answers, field, fill, h, quiet, status } from './dom.js';
 import { UNREAD, fileField } from './files.js';
-import { matchPart, noFacts, postImage } from './images.js';
+import { matchPart, postImage, unreadPart } from './images.js';
 import { barPlace } from './sending.js';
 import { get } from '../desk/api.js';
 import { colonDoubts, digestDoubts, digestsOf } from '../desk/doubts.js';
@@ -42,7 +42,7 @@ function imagePart(take) {
         );
         if (mine !== turn) return;
         answered = true;
-        if (answer.kind !== 'value') return fill(said, noFacts(answer));
+        if (answer.kind !== 'value') return fill(said, await unreadPart(answer, chosen));
         take(answer.value);
         fill(said, await matchPart(chosen, answer.value, requests));
     });

@@ -5,7 +5,7 @@ import {
     answers, box, buttons, faulty, fill, h, heading, p, quiet, strong, submitButton,
 } from './dom.js';
 import { fileField, noFile } from './files.js';
-import { matchPart, noFacts, postImage } from './images.js';
+import { matchPart, noFacts, postImage, unreadPart } from './images.js';
 import { barPlace } from './sending.js';
 import { listed } from '../desk/lists.js';
 import { carriedWords } from '../desk/questions.js';
@@ -67,7 +67,7 @@ async function factsOf(chosen, bar) {
     const [answer, requests] = await Promise.all(
         [postImage('/facts', chosen, bar), listed('requests')],
     );
-    if (answer.kind !== 'value') return [whyPart(chosen, null), noFacts(answer)];
+    if (answer.kind !== 'value') return [whyPart(chosen, null), await unreadPart(answer, chosen)];
     return [whyPart(chosen, answer.value), await matchPart(chosen, answer.value, requests)];
 }
 

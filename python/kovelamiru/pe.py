@@ -1,6 +1,7 @@
-"""An image's sections, as docs/FORMATS.md has them. This isn't proved."""
+"""An image's sections and digests, as docs/FORMATS.md has them. This isn't proved."""
 from __future__ import annotations
 
+import hashlib
 import struct
 from typing import Sequence
 
@@ -33,3 +34,27 @@ def texts_in(data: bytes, names: Sequence[bytes]) -> dict[str, bytes]:
 
 def has_sbat(data: bytes) -> bool:
     return any(name == b".sbat" for name, _, _ in sections(data))
+
+
+def hashed_ranges(data: bytes) -> tuple[list[tuple[int, int]], bool]:
+    """The ranges that Authenticode hashes of an image whose layout is good, and whether it has a
+    certificate table."""
+    optional = number_at(data, 0x3C) + 24
+    entry = optional + (144 if number_at(data, optional, "<H") == 0x20B else 128)
+    heads, checksum = number_at(data, optional + 60), optional + 64
+    has_entry = number_at(data, entry - 36) >= 5
+    table, size = struct.unpack_from("<2I", data, entry) if has_entry else (0, 0)
+    raw = sorted((begin, end) for _, begin, end in sections(data) if end > begin)
+    last = heads + sum(end - begin for begin, end in raw)
+    found = [(0, checksum), (checksum + 4, entry if has_entry else heads)]
+    found += [(entry + 8, heads)] if has_entry else []
+    return found + raw + [(last, table if size else len(data))], size > 0
+
+
+def authenticode(data: bytes) -> tuple[str, str]:
+    """The digest of an image whose layout is good, and the one that a signature holds."""
+    ranges, has_table = hashed_ranges(data)
+    whole = hashlib.sha256(b"".join(data[begin:end] for begin, end in ranges))
+    padded = whole.copy()
+    padded.update(bytes(0 if has_table else -len(data) % 8))
+    return whole.hexdigest(), padded.hexdigest()

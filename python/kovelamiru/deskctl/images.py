@@ -5,14 +5,17 @@ import hashlib
 import os
 import re
 import shutil
+import struct
 import subprocess
 from typing import Optional
 
 from ..answers import shaped
+from ..brought import BROUGHT
 from ..facts import Facts
 from ..faults import Refused, explained, reason, wrong
 from ..files import IMAGE_LIMIT, looks_like, read_file
 from ..http import Call
+from ..pe import authenticode
 from ..words import printable
 from .run import Run
 
@@ -33,11 +36,25 @@ def facts_read_by(run: Run, path: str, data: bytes) -> Facts:
         facts = facts or by_program(run, path)
     except Refused as refused:
         refused.more = ([f"{path} is {looks_like(data)}."] if not data.startswith(b"MZ") else [
-            f"The file: {path}"])
+            f"The file: {path}", *unread_steps(data, refused.name)])
         raise explained(refused, {})
     if facts.file != hashlib.sha256(data).hexdigest():
         wrong(f"{path} changed while it was read")
     return facts
+
+
+# Refusals of an image whose layout is good: its digests are there, though it can't be judged.
+UNREAD = ("Der", "TwoSbat", "SbatRow", "TooLong")
+
+
+def unread_steps(data: bytes, name: str) -> list[str]:
+    """How such an image is revoked."""
+    try:
+        digests = dict.fromkeys(authenticode(data)) if name in UNREAD else {}
+    except struct.error:
+        digests = {}
+    words = " ".join(f"--digest {digest}" for digest in digests)
+    return [f"{BROUGHT['unread']} deskctl revoke {words}"] if digests else []
 
 
 def asked(run: Run, data: bytes) -> Optional[Facts]:
