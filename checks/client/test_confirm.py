@@ -13,6 +13,7 @@ from checks.support.deskctl import NO_TERMINAL, Office, Person
 from checks.support.images import PLAIN, authenticode, digest, with_text
 from checks.support.messages import PEOPLE, refused, said
 from checks.support.says import expect
+from checks.support.steps import shown as request
 from checks.support.steps import tag_of
 
 PROPOSAL: dict[str, Any] = {
@@ -68,6 +69,23 @@ def otto(office: Office, between: Between) -> Person:
     office["olga"].does("import lists.esl")
     between.shows = {PATH: shown(PROPOSAL), IMPACT_PATH: shown(IMPACT)}
     return office["otto"].at(between.url)
+
+
+@pytest.mark.parametrize("name, asked, says", [
+    ("shim", [], ""), ("grub", [b"/requests/from/1"], ""),
+    ("grubb", [b"/requests/from/1", b"/requests/from/2"], "has a component grubb. Is it spelt"),
+])
+def test_requests_are_read_for_a_name_that_the_level_hasnt_until_one_has_it(
+    otto: Person, between: Between, name: str, asked: list[bytes], says: str
+) -> None:
+    one = dict(request(1, "ann", "a loader", "open", []), components=[["grub", 2]])
+    between.shows[PATH] = shown({**PLAINER, "certificates": [], "components": [[name, 3]],
+                                 "digests": [], "stamp": int(f"{TODAY}01")})
+    between.shows["/level"] = answer(200, b"sbat,1,2026010100\nshim,2\n", "text/plain")
+    between.shows |= {"/requests/from/1": shown([one]), "/requests/from/2": shown([])}
+    said_ = otto.does("proposal 1", says)
+    assert ("spelt" in said_) == bool(says), said_
+    expect([head.split(b" ")[1] for head in between.seen if b"/from/" in head], asked, "the parts")
 
 
 def no_confirm(between: Between) -> None:

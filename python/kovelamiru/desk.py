@@ -5,9 +5,10 @@ import http.client
 import io
 import json
 import random
+import re
 import ssl
 import time
-from typing import Any, Iterator, Optional
+from typing import Any, Collection, Iterator, Optional
 
 from .faults import LOOK, REFUSED, Lost, NoAnswer, Refused, Stop, no_desks
 from .http import JSON, PIECE, TEXT, UNTAKEN, Answer, Call, Site, Where, not_a_desk
@@ -21,6 +22,8 @@ FIRST_PAUSE, LONGEST_PAUSE, RETRIES = 0.25, 30.0, 8
 NOBODY = 3.0
 # The greatest number that a path takes.
 LAST = 9_999_999
+# So many texts at most are looked for in a list's bytes.
+FEW = 16
 # Longer bodies are sent once the token is known to be somebody's.
 PREFLIGHT = 1 << 20
 
@@ -115,14 +118,21 @@ class Desk(Site):
                 "Whoever keeps the desk reads them by `desk minutes`, while it doesn't serve.")
         return answer
 
-    def listed(self, path: str, first: int = 1) -> Iterator[dict[str, Any]]:
+    def listed(self, path: str, first: int = 1,
+               texts: Optional[Collection[str]] = None) -> Iterator[dict[str, Any]]:
         """The objects of a list of numbered things, from this number on: in parts, or of the whole
-        list where an older desk has no parts."""
+        list where an older desk has no parts. With `texts` at least those that have one of them; it
+        ends once there is none left to look for."""
         more = True
-        while more and first <= LAST:
+        while more and first <= LAST and (texts is None or texts):
             more = False
             try:
-                for value in self.items(f"{path}/from/{first}"):
+                answer = self.get(f"{path}/from/{first}")
+                last = last_without(answer, texts) if texts else 0
+                if last >= first:
+                    first, more = last + 1, True
+                    continue
+                for value in objects(answer):
                     if not isinstance(value.get("number"), int) or value["number"] < first:
                         raise no_desks("its list isn't in order")
                     first, more = value["number"] + 1, True
@@ -134,27 +144,45 @@ class Desk(Site):
                             if value.get("number", first) >= first)
 
     def items(self, path: str) -> Iterator[dict[str, Any]]:
-        """The objects of an array, one after another: a list of any length takes little memory."""
-        answer = self.get(path).of_type(JSON)
-        decoder, text = json.JSONDecoder(), io.TextIOWrapper(answer.body, encoding="utf-8")
-        rest, at = text.read(PIECE), 1
-        if rest[:1] != "[":
-            raise not_a_desk(answer)
-        while rest[at:at + 1] != "]":
-            try:
-                found, end = decoder.raw_decode(rest, at)
-            except ValueError:
-                found, end = None, len(rest)
-            if end < len(rest):
-                if not isinstance(found, dict):
-                    raise not_a_desk(answer)
-                yield found
-                at = end + 1 if rest[end] == "," else end
-                continue
-            more = text.read(PIECE)
-            if not more:
+        """The objects of a whole list, or of one part."""
+        return objects(self.get(path))
+
+
+def objects(answer: Answer) -> Iterator[dict[str, Any]]:
+    """The objects of an array, one after another: a list of any length takes little memory."""
+    answer.of_type(JSON).body.seek(0)
+    decoder, text = json.JSONDecoder(), io.TextIOWrapper(answer.body, encoding="utf-8")
+    rest, at = text.read(PIECE), 1
+    if rest[:1] != "[":
+        raise not_a_desk(answer)
+    while rest[at:at + 1] != "]":
+        try:
+            found, end = decoder.raw_decode(rest, at)
+        except ValueError:
+            found, end = None, len(rest)
+        if end < len(rest):
+            if not isinstance(found, dict):
                 raise not_a_desk(answer)
-            rest, at = rest[at:] + more, 0
+            yield found
+            at = end + 1 if rest[end] == "," else end
+            continue
+        more = text.read(PIECE)
+        if not more:
+            raise not_a_desk(answer)
+        rest, at = rest[at:] + more, 0
+
+
+def last_without(answer: Answer, texts: Collection[str]) -> int:
+    """The last number in a part of a list that has none of these texts, which needn't be parsed; 0
+    of any other."""
+    if len(texts) > FEW:
+        return 0
+    data = answer.of_type(JSON).data()
+    # (no text of JSON has this: its quotes would be escaped)
+    last = re.match(rb'"number":([0-9]{1,7})\b', data[max(data.rfind(b'"number":'), 0):][:20])
+    if last is None or any(json.dumps(text).encode() in data for text in texts):
+        return 0
+    return int(last[1])
 
 
 def proxy_refusal(answer: Answer) -> Stop:

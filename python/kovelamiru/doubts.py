@@ -15,14 +15,15 @@ from .described import LIMITS
 from .desk import Desk
 from .journal import now
 from .questions import issued_question, unknown_words
-from .standing import Standing, lists_of
+from .standing import Standing, level_of, lists_of
 from .words import printable
 
 
 @dataclass
 class Known:
     """What is known of some digests and certificates: what they are, and what makes them
-    doubtful. `names` are those of all components."""
+    doubtful. `names` are those of components, `sought` the texts of requests that may still tell
+    something."""
 
     digests: set[str]
     certificates: set[str]
@@ -31,6 +32,7 @@ class Known:
     revoked: list[str] = field(default_factory=list)
     halves: list[str] = field(default_factory=list)
     names: set[str] = field(default_factory=set)
+    sought: set[str] = field(default_factory=set)
     about: dict[str, str] = field(default_factory=dict)
     told: Counter[str] = field(default_factory=Counter)
     now: Standing = field(default_factory=Standing)
@@ -43,7 +45,9 @@ class Known:
                 filter(None, [self.about.get(digest), text if self.told[digest] < 4 else ".."]))
 
     def request(self, one: Request) -> None:
-        self.names.update(str(name) for name, _ in one.components)
+        names = {str(name) for name, _ in one.components}
+        self.names |= names
+        self.sought -= names
         both = {one.digest, one.signing}
         if len(both & self.digests) == 1 and len(both) == 2:
             self.halves.append(
@@ -67,6 +71,8 @@ class Known:
                     " no image's digest.")
             if certificate in self.certificates:
                 self.tell(certificate, f"carried by {titled(one)}")
+                if self.told[certificate] > 3 and certificate not in self.digests:
+                    self.sought.discard(certificate)
 
     def listed(self, body: bytes) -> None:
         """A listed certificate. The desk takes more than what is one."""
@@ -120,10 +126,14 @@ def certificate_words(one: Certificate) -> str:
 def known(desk: Desk, digests: Sequence[str], certificates: Sequence[str],
           components: Sequence[Sequence[Any]] = (),
           given: Optional[Mapping[str, Certificate]] = None) -> Known:
-    """Looks for them among the desk's requests and lists; of some certificates there is all."""
+    """Looks for them among the desk's requests and lists, for components only where the level has
+    none of their name; of some certificates there is all."""
     found = Known(set(digests), set(certificates))
-    if found.digests or found.certificates or components:
-        for value in desk.listed("/requests"):
+    found.now.level = level_of(desk)[1] if components else {}
+    found.sought = found.digests | found.certificates | {
+        name for name, _ in components if name not in found.now.level}
+    if found.sought:
+        for value in desk.listed("/requests", texts=found.sought):
             found.request(shaped(Request, value))
     if found.digests or found.certificates:
         for name in ("db", "dbx"):

@@ -13,7 +13,7 @@ from ..proposals import DESCRIBED, counts_words, described
 from ..questions import plain_question, rule_words
 from ..reasons import Reason, in_short, reason_lines, reasons_in, reasons_of
 from ..search import proposal_matches
-from ..standing import level_of, standing_of
+from ..standing import standing_of
 from ..waiting import ages_in, last_calls
 from ..words import KINDS, counted, kinds, printable
 from .listing import List, show
@@ -137,7 +137,7 @@ def proposal(run: Run) -> None:
     for line in named_lines(run, one, found.about, reasons_of(run.desk, number)) + lines:
         run.terminal.say(line)
     own = own_doubts(run, one.officer) if one.state == "open" else []
-    level = level_doubts_of(run, one, found) if lines else []
+    level = level_doubts_of(one, found) if lines else []
     for doubt in own + found.doubts + level:
         run.terminal.say(f"! {doubt}")
 
@@ -183,8 +183,8 @@ def own_doubts(run: Run, officer: str) -> list[str]:
     return [OWN_PROPOSAL] if me and me.name == officer else []
 
 
-def level_doubts_of(run: Run, one: Proposal, found: Known) -> list[str]:
-    return level_doubts(one.components, one.stamp, level_of(run.desk)[1], found.names)
+def level_doubts_of(one: Proposal, found: Known) -> list[str]:
+    return level_doubts(one.components, one.stamp, found.now.level, found.names)
 
 
 def show_all(run: Run, value: dict[str, Any], one: Proposal) -> Seen:
@@ -200,7 +200,7 @@ def show_all(run: Run, value: dict[str, Any], one: Proposal) -> Seen:
         raise
     for line in impact_lines(shaped(Impact, impact)):
         run.terminal.warn(line)
-    doubts = own_doubts(run, one.officer) + found.doubts + level_doubts_of(run, one, found)
+    doubts = own_doubts(run, one.officer) + found.doubts + level_doubts_of(one, found)
     return Seen(value, impact, doubts, reasons)
 
 
