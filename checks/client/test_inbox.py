@@ -86,11 +86,14 @@ def test_a_terminal_of_80_columns_has_it(filled: Office) -> None:
         "2         2 digests, 1 certificate  olga  -"]), "an officer whose proposal is open")
 
 
-def test_a_terminal_says_what_one_entry_is(filled: Office) -> None:
+def test_a_terminal_says_what_one_entry_is(filled: Office, between: Between) -> None:
     filled["olga"].does(f"revoke --digest {digest('77')}", "proposal 3")
     line = "3         digest 77777777.., which newly bars no known image  olga  0 minutes"
     for name in ("olga", "otto"):
+        filled[name].at(between.url)
         assert line in filled[name].asked("inbox", size=(24, 120))[1].splitlines(), name
+    # (no certificate is named)
+    expect([head for head in between.seen if b" /db" in head], [], "the lists that were read")
     expect(seen(filled, "otto")[1], "waits proposal 3 1 digest|olga|0 minutes", "without one")
 
 

@@ -4,7 +4,7 @@ import { beforeEach, test } from 'node:test';
 
 import './cases.mjs';
 import { setToken } from '../../page/desk/api.js';
-import { ownProposals, times } from '../../page/desk/proposed.js';
+import { lately, ownProposals, times } from '../../page/desk/proposed.js';
 import { me } from '../../page/desk/session.js';
 import { count, forgetWaiting, inbox, listen, look, seen } from '../../page/desk/waiting.js';
 import { ageWords, voteWords } from '../../page/formats/words.js';
@@ -147,13 +147,14 @@ test('where a part doesn’t come all stays as it was, and the next look reads i
     assert.deepEqual(inbox().changed.map(({ state }) => state), ['approved', 'rejected']);
 });
 
-test('when proposals were made is read of the newest calls, and of new ones alone', async () => {
+test('when proposals were made is read of few calls, of more if need be, and of new ones', async () => {
     is('officer');
     const line = (number, key, reply) => `${number}\totto\t${key}\traise\t${reply}\n`;
     const proposals = [proposal(7, 'otto'), proposal(8, 'otto')];
     desk = { '/changes': { changes: 900 }, '/waiting': { requests: [], proposals } };
-    desk['/minutes/401'] = line(899, '20261130T101112Z-0011223344556677', 'proposed 8')
+    desk['/minutes/851'] = line(899, '20261130T101112Z-0011223344556677', 'proposed 8')
         + line(900, 'a-key', 'confirmed 1');
+    desk['/minutes/401'] = line(401, 'a-key', 'confirmed 1') + desk['/minutes/851'];
     await look();
     assert.deepEqual([...await times()], [[8, '2026-11-30 10:11:12']]);
     await times();
@@ -163,7 +164,32 @@ test('when proposals were made is read of the newest calls, and of new ones alon
     await look();
     assert.deepEqual((await times()).get(9), '');
     const minutes = asked.filter((path) => path.startsWith('/minutes'));
-    assert.deepEqual(minutes, ['/minutes/401', '/minutes/901']);
+    assert.deepEqual(minutes, ['/minutes/851', '/minutes/401', '/minutes/901']);
+});
+
+test('no more of the calls is read than tells when and why proposals were made, each once', async () => {
+    is('officer');
+    const line = (number, text, reply) => `${number}\totto\t20261130T101112Z-00\t${text}\t${reply}\n`;
+    const made = (number, of) => line(number, `revoke-digest ${'ab'.repeat(32)}`, `proposed ${of}`);
+    const why = (number, of) => line(number, `explain ${of} since ${number}`, `explained ${of}`);
+    const waiting = (...of) => ({ requests: [], proposals: of.map((one) => proposal(one, 'otto')) });
+    const reasons = async (of) => ((await lately()).get(of) ?? []).map(({ text }) => text);
+    desk = { '/changes': { changes: 900 }, '/waiting': waiting(7) };
+    desk['/minutes/851'] = made(860, 7) + why(870, 7);
+    await look();
+    assert.deepEqual([[...(await times()).keys()], await reasons(7)], [[7], ['since 870']]);
+    desk['/changes'] = { changes: 990 };
+    desk['/minutes/901'] = why(930, 7) + made(940, 8);
+    await look();
+    assert.deepEqual(await reasons(7), ['since 870', 'since 930']);
+    desk['/changes'] = { changes: 991 };
+    desk['/waiting'] = waiting(6, 7, 8);
+    desk['/minutes/991'] = '';
+    desk['/minutes/492'] = made(600, 6) + made(860, 7) + why(870, 7) + why(930, 7) + made(940, 8);
+    await look();
+    assert.deepEqual([(await times()).has(6), await reasons(7)], [true, ['since 870', 'since 930']]);
+    const minutes = asked.filter((path) => path.startsWith('/minutes'));
+    assert.deepEqual(minutes, [851, 901, 991, 492].map((first) => `/minutes/${first}`));
 });
 
 test('an officer’s own open proposals are read from the oldest that was open on', async () => {
@@ -216,7 +242,7 @@ test('no look while the page is hidden, one as it is shown again, none behind th
     const { setTimeout: real } = globalThis;
     const settled = () => new Promise((resolve) => { real(resolve, 5); });
     globalThis.document = { hidden: true, addEventListener: (_, hear) => hears.push(hear) };
-    globalThis.setTimeout = (goesOn, time) => time === 60000 && waits.push(goesOn);
+    globalThis.setTimeout = (goesOn, time) => time === 120000 && waits.push(goesOn);
     try {
         beginWaiting();
         await settled();

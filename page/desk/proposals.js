@@ -16,6 +16,12 @@ import { filled, someOf } from '../formats/words.js';
 /** Of so many open ones in a list it is read what they name. */
 export const DESCRIBED = 50;
 
+/**
+ * What names no certificate is described without the lists.
+ * @type {{ kind: 'value', value: Pick<Standing, 'listed'> }}
+ */
+const NONE = { kind: 'value', value: { listed: { digests: new Set(), certificates: new Map() } } };
+
 /** @param {string} kind @param {string} hex */
 const hashWords = (kind, hex) => filled(wire.words.names.hash, { kind, hex: hex.slice(0, 8) });
 
@@ -105,10 +111,11 @@ export async function namesOf(rows) {
     const first = rows.filter(({ state, digests, certificates, components }) => (
         state === 'open' && digests + certificates + components === 1
     ));
-    const now = first.length > 0 ? await standing() : null;
+    const lists = first.some(({ certificates }) => certificates > 0) ? await standing() : null;
     /** @type {Map<number, string>} */
     const found = new Map();
-    for (const row of now?.kind === 'value' ? first.slice(0, DESCRIBED) : []) {
+    for (const row of first.slice(0, DESCRIBED)) {
+        const now = row.certificates > 0 ? lists : NONE;
         if (now?.kind === 'value') found.set(row.number, await described(row, now.value));
     }
     return found;

@@ -10,8 +10,8 @@ import { timeOf } from '../formats/sentences.js';
 /** @typedef {import('./types.js').ProposalRow} ProposalRow */
 /** @typedef {import('./waiting.js').Inbox} Inbox */
 
-/** How many of the newest calls are read for when proposals were made, and why. */
-const NEWEST = 500;
+/** How many of the newest calls are read for when proposals were made, and why; if need be more. */
+const [FEW, MANY] = [50, 500];
 
 /** @param {Inbox} beside */
 const nothing = (beside) => ({
@@ -25,7 +25,8 @@ const nothing = (beside) => ({
     times: new Map(),
     /** @type {Map<number, import('./reasons.js').Reason[]>} */
     reasons: new Map(),
-    /** The number of the last call that was read for these. */
+    /** The first and the last call that were read for these. */
+    from: 1,
     timed: 0,
 });
 
@@ -59,17 +60,29 @@ export const times = async () => (await ofCalls()).times;
 // The reasons of proposals among the newest calls, likewise.
 export const lately = async () => (await ofCalls()).reasons;
 
+// Each reason of a proposal comes behind the call that made it: what tells its age tells them, too.
 async function ofCalls() {
     const into = current();
-    const { timed } = into;
     const { changes, waiting } = into.beside;
     const rows = [...(waiting?.proposals ?? []), ...(into.own ?? [])];
-    if (rows.length === 0 || changes <= timed) return into;
-    const first = Math.max(1, timed + 1, changes - NEWEST + 1);
+    if (rows.length === 0) return into;
+    const few = Math.max(1, changes - FEW + 1);
+    const many = Math.max(1, changes - MANY + 1);
+    const first = into.timed === 0 ? few : Math.max(many, into.timed + 1);
+    if (changes > into.timed) await readCalls(into, first, changes);
+    const isKnown = rows.every(({ number }) => into.times.has(number));
+    if (!isKnown && many < into.from) await readCalls(into, many, changes);
+    return into;
+}
+
+/** @param {ReturnType<typeof nothing>} into @param {number} first @param {number} last */
+async function readCalls(into, first, last) {
+    const { timed } = into;
     const answer = await get(`/minutes/${first}`, 'text');
-    if (answer.kind !== 'value' || into.timed !== timed) return into;
+    if (answer.kind !== 'value' || into.timed !== timed) return;
     // (what came since is read the next time)
-    const lines = answer.value.split('\n').slice(0, changes - first + 1);
+    const lines = answer.value.split('\n').slice(0, last - first + 1);
+    if (first <= timed) into.reasons = new Map();
     for (const [number, some] of reasonsIn(lines)) {
         into.reasons.set(number, [...(into.reasons.get(number) ?? []), ...some]);
     }
@@ -78,6 +91,6 @@ async function ofCalls() {
         const made = /^proposed ([0-9]+)$/.exec(reply ?? '');
         if (made) into.times.set(Number(made[1]), timeOf(key));
     }
-    into.timed = changes;
-    return into;
+    into.from = timed === 0 ? first : Math.min(first, into.from);
+    into.timed = last;
 }

@@ -1,12 +1,12 @@
-// The looks at what waits for the person: once a minute while the page is shown, and behind each
-// command. Their count stands in the window's title and at the link of the first view.
+// The looks at what waits for the person: every two minutes while the page is shown, and behind
+// each command. Their count stands in the window's title and at the link of the first view.
 
 import { titled } from './dom.js';
 import { pause } from '../desk/api.js';
 import { count, forgetWaiting, listen, look } from '../desk/waiting.js';
 
-/** How long is waited between two looks, in milliseconds. */
-const MINUTE = 60000;
+/** How long is waited between two looks, in milliseconds: an hour of them has less than 10 KB. */
+const PAUSE = 120000;
 /** And at least so many times what an answer took. */
 const REST = 100;
 
@@ -18,7 +18,7 @@ export async function beginWaiting() {
     while (mine === turn) {
         const begun = Date.now();
         await look();
-        await pause(Math.max(MINUTE, REST * (Date.now() - begun)));
+        await pause(Math.max(PAUSE, REST * (Date.now() - begun)));
         await shown();
     }
 }

@@ -102,5 +102,5 @@ def described(desk: Desk, row: Counts, now: Standing) -> str:
 def names_of(desk: Desk, rows: Sequence[Counts]) -> dict[int, str]:
     """What the first open ones of a list name, by their numbers."""
     first = [row for row in rows if row.state == "open" and sum(row.named().values()) == 1]
-    now = standing_of(desk) if first else Standing()
+    now = standing_of(desk) if any(row.certificates for row in first) else Standing()
     return {row.number: described(desk, row, now) for row in first[:DESCRIBED]}
