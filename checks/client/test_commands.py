@@ -170,13 +170,19 @@ def without_tokens(proxied: Nginx) -> None:
         assert token("") not in log.read_text(), f"a token stands in nginx's {log.name}"
 
 
+def test_a_word_too_many_is_named(office: Office) -> None:
+    olga = office["olga"]
+    olga.ends(2, "requests --colour", "requests has no option --colour")
+    olga.ends(2, "report 7", "report takes fewer words: 7 is too much")
+
+
 @pytest.mark.needs("nginx", "openssl")
 def test_a_client_certificate_takes_the_tokens_place(office: Office, proxied: Nginx) -> None:
     url, folder = f"https://127.0.0.1:{proxied.own}", proxied.room
     trusted = {"DESK_CA": str(folder / "ca.pem")}
     olga = office.person("olga", url, "certified", **trusted)
     del olga.env["DESK_TOKEN_FILE"]
-    olga.ends(2, "report", "who calls isn't said", "--cert")
+    olga.ends(2, "report", "no token is given", "--cert")
     words = f"--cert {folder}/olga.pem --key {folder}/olga.key"
     olga.does(f"report {words}", "revoked digests")
     olga.does(f"revoke --digest {digest('77')} {words}", "proposed")

@@ -169,7 +169,8 @@ def test_a_proposal_and_its_impact_by_the_desk(office: Office) -> None:
     office.file("shim.efi", image)
     ann.does("submit shim.efi --title shim", "request 1 submitted")
     olga.does(f"raise shim 4 --stamp {TODAY}01", "proposal 1")
-    wanted = ["component   shim 4", "bars request 1 (submitted, open, of ann), refused now: shim 3,"
+    wanted = ["component   shim 4",
+              "bars request 1 (submitted, open, of ann), not allowed now: shim 3,"
               " where the level would require 4", "bars 1 known image"]
     otto.does("proposal 1", *wanted)
     otto.ends(2, "confirm 1 --bars 0", "bars 1 known image, and not 0")

@@ -118,7 +118,8 @@ def test_a_file_is_compared_with_a_requests(office: Office) -> None:
     ann.does("compare 1 signed.efi", "The same image with another signature table", "carried",
              "in the file alone  CN=Image signer", "is revoked")
     ann.ends(4, "compare 1 odd.efi", out=[
-        "Another image.", "length      1,024 bytes in the request, 1,029 bytes in the file"])
+        "Another image.", "length      1,024 bytes in the request, 1,029 bytes in the file",
+        "digest      in the request, then in the file:\n              "])
     ann.ends(1, "compare 2 signed.efi", "refused 23 NoSuchRequest")
     ann.ends(1, "compare 1 leaf.der", "refused 2 NoMz")
     ann.ends(2, "compare signed.efi 1", "no number")

@@ -103,7 +103,7 @@ def test_a_file_of_settings_names_the_desk_the_token_and_the_person(office: Offi
     olga.does("requests --mine")
     olga.does(f"report --url {url.replace('127.0.0.1', 'localhost')}")
     settings(office, f"[desk]\nurl = {url}\n")
-    office.refuses("olga", "report", "who calls isn't said")
+    office.refuses("olga", "report", "no token is given")
     olga.env.update({"DESK_URL": url, "DESK_TOKEN": "a-token-that-is-not-read"})
     office.refuses("olga", "report", "DESK_TOKEN isn't read")
 
@@ -123,7 +123,7 @@ def test_a_desk_is_named_by_its_section_alone(office: Office, between: Between) 
     olga.env["DESK_URL"] = between.url
     olga.does("report --desk prod")
     expect(between.seen, [], "what goes to another desk")
-    office.refuses("olga", "report --desk bare", "who calls isn't said")
+    office.refuses("olga", "report --desk bare", "no token is given")
     office.refuses("olga", "report --desk none", "there is no desk none", "desk, prod, bare.")
     office.refuses("olga", f"report --desk prod --url {url}", "--desk and --url both name a desk")
     olga.env["DESKCTL_DESK"] = "prod"

@@ -73,8 +73,10 @@ def difference(name: str, there: object, here: object) -> list[str]:
     """What differs in a line; digests have one each."""
     if there == here:
         return []
-    between = "\n" + " " * 14 if HEX.match(str(there)) else ", "
-    return [f"  {name:<11} {there} in the request{between}{here} in the file"]
+    if HEX.match(str(there)):
+        return ["\n".join((f"  {name:<11} in the request, then in the file:",
+                           f"{'':14}{there}", f"{'':14}{here}"))]
+    return [f"  {name:<11} {there} in the request, {here} in the file"]
 
 
 def generations(components: Sequence[Sequence[Any]]) -> dict[str, str]:

@@ -137,7 +137,10 @@ def words_of(arguments: Sequence[str]) -> tuple[Names, Command]:
               "Make another one, and name its file: --token-file FILE")
     words, rest = parser_of(arguments).parse_known_args(arguments, Names(**DEFAULTS))
     if rest:
-        wrong(f"too much: {printable(' '.join(rest))}", f"deskctl {words.command} --help")
+        odd = next((one for one in rest if one.startswith("-")), "")
+        wrong(f"{words.command} has no option {printable(odd)}" if odd else
+              f"{words.command} takes fewer words: {printable(' '.join(rest))} is too much",
+              f"deskctl {words.command} --help")
     return words, next(one for one in COMMANDS if one.name == words.command)
 
 

@@ -97,7 +97,7 @@ def impact_lines(impact: Impact) -> list[str]:
     adds = impact.adds
     lines = [f"A Confirm adds {kinds(adds)}; dbx then has {impact.dbx:,} bytes."]
     for one in impact.bars:
-        now_ = "ALLOWED NOW" if one.get("allowed") else "refused now"
+        now_ = "ALLOWED NOW" if one.get("allowed") else "not allowed now"
         lines.append(
             f"  bars request {one.get('request')} ({printable(one.get('file'))},"
             f" {printable(one.get('state'))}, of {printable(one.get('submitter'))}), {now_}:"

@@ -178,7 +178,7 @@ def desk_of(settings: Settings, terminal: Terminal) -> Desk:
     context = tls_of(settings) if where.tls else None
     token = read_token(settings.token_file) if settings.token_file else ""
     if not token and not (settings.cert and where.tls):
-        wrong("who calls isn't said", *NOBODY[:2 if "DESK_TOKEN" in os.environ else 1])
+        wrong("no token is given", *NOBODY[:2 if "DESK_TOKEN" in os.environ else 1])
     secret = (token.encode() if token else read_file(settings.cert or "", BODY_LIMIT,
                                                      "a client certificate has"))
     mark = hashlib.sha256(b"deskctl\0" + str(where).encode() + b"\0" + secret).hexdigest()[:16]
