@@ -147,7 +147,11 @@ def test_of_two_at_once_one_builds(tree: Tree) -> None:
 @pytest.mark.parametrize("ending", [signal.SIGHUP, signal.SIGINT, signal.SIGTERM, signal.SIGKILL])
 def test_a_build_that_is_ended_leaves_nothing(tree: Tree, ending: signal.Signals) -> None:
     environment = tree.environment(KIT="waits")
-    running = subprocess.Popen([tree.at / "desk", "a"], env=environment, stderr=subprocess.PIPE)
+    # (where the checks run behind others, SIGINT is ignored)
+    running = subprocess.Popen(
+        [tree.at / "desk", "a"], env=environment, stderr=subprocess.PIPE,
+        preexec_fn=lambda: signal.signal(signal.SIGINT, signal.SIG_DFL),
+    )
     trying = tree.bin / "trying"
     for _ in range(3000):
         if trying.exists():
