@@ -3,6 +3,7 @@ sent once, shown before a Confirm."""
 from __future__ import annotations
 
 import shlex
+from pathlib import Path
 
 import pytest
 
@@ -43,6 +44,8 @@ def test_a_morning_with_reasons(office: Office) -> None:
     otto.does("proposal 1", *said)
     expect("why  " in otto.does("proposal 4"), False, "reasons of proposal 4")
     office.refuses("otto", "confirm 1", *said, NO_TERMINAL)
+    status, rows = otto.asked("inbox")
+    assert status == 0 and ": not yet; two days more  " in rows, rows
     status, shown_ = otto.asked("confirm 1", "0")
     assert status == 0 and all(text in shown_ for text in said), shown_
     otto.does(f"why {digest('aa')}", f"olga explained proposal 1: {BECAUSE}", "not yet; two days")
@@ -60,7 +63,7 @@ def test_a_reason_that_isnt_one_is_refused_before_anything_is_sent(office: Offic
     office.refuses_all(
         (f"olga {REVOKE} --why 'caf\u00e9'", "the reason has 'é' at place 4"),
         (f"olga {REVOKE} --why ' a'", "a reason can't begin or end with a space"),
-        (f"olga {REVOKE} --why {'a' * 201}", "the reason has 201 characters, and may have 1 to 200"),
+        (f"olga {REVOKE} --why {'a' * 201}", "the reason has 201 characters, and may have 1 to"),
         ("olga explain 1 ''", "the reason has 0 characters"),
         ("olga explain 2 a", "refused 37 NoSuchProposal"),
         ("ann explain 1 a", "refused 21", "`deskctl explain` is for officers."),
@@ -100,7 +103,8 @@ def test_a_reason_that_was_lost_goes_once(
 
 def test_killed_behind_the_reason_it_goes_once(office: Office, between: Between) -> None:
     """The journal still has the proposal, and nothing of the reason."""
-    olga, held = office["olga"].at(between.url), []
+    olga = office["olga"].at(between.url)
+    held: list[tuple[Path, bytes]] = []
 
     def rule(request: bytes, ask: Ask) -> bytes:
         held.extend((path, path.read_bytes()) for path in olga.journal.iterdir()

@@ -2,6 +2,7 @@
 and in History."""
 from __future__ import annotations
 
+from checks.page.looked import looked
 from checks.page.plain_day import STAMP
 from checks.page.site import Site
 from checks.support.browser import Browser
@@ -18,9 +19,8 @@ def explains(site: Site) -> list[str]:
     return [f"{row[1]}: {row[3]}" for row in rows if row[3].startswith("explain ")]
 
 
-def test_a_morning_with_reasons(browser: Browser, site: Site) -> None:
-    """A reason that comes while the last question is open is shown before another one."""
-    browser.sign_in(token("olga"))
+def proposes_three(browser: Browser, site: Site) -> None:
+    """olga does, each with a reason."""
     browser.go("propose")
     browser.fill("Digests, one a line", "5" * 64)
     browser.fill(WHY, "caf\u00e9")
@@ -40,23 +40,31 @@ def test_a_morning_with_reasons(browser: Browser, site: Site) -> None:
     path.write_text(f"kind,value,generation\nsha256,{'6' * 64},\n", encoding="ascii")
     browser.go("propose/import")
     browser.drop("File", path)
+    browser.sees("CSV.")
     browser.fill(WHY, "of the other vendor")
     browser.press("Propose this import")
     browser.sees("This is proposal 3.", HAS)
-    browser.go("proposals")
-    browser.sees(BECAUSE, "grub 2 loads anything", "of the other vendor")
-    browser.sign_in(token("otto"))
+
+
+def explains_one(browser: Browser) -> None:
+    """otto does, in the proposal's view."""
     browser.go("proposals/1")
     browser.sees("olga, 20", BECAUSE)
     browser.press("Explain", tag="summary")
     browser.press("Explain")
     browser.sees("Say why.")
+    looked(browser, "a proposal with a reason")
     browser.fill(MORE, "I compared it")
     browser.press("Explain")
     browser.sees("Explained.", "otto, 20", "I compared it")
+
+
+def confirms(browser: Browser, site: Site) -> None:
+    """A reason that comes while the last question is open is shown before another one."""
     browser.press("Confirm…")
     question = "Confirm proposal 1 for good?"
     browser.asks(question, BECAUSE, "I compared it")
+    looked(browser, "the question before a Confirm with reasons")
     site.does("olga", "/proposals/1/explain", {"text": "two days more"})
     browser.press("Confirm for good")
     browser.sees("Not confirmed.", "two days more")
@@ -64,6 +72,18 @@ def test_a_morning_with_reasons(browser: Browser, site: Site) -> None:
     browser.asks(question, "two days more")
     browser.press("Confirm for good")
     browser.sees("New in force: 1 digest.", BECAUSE)
+
+
+def test_a_morning_with_reasons(browser: Browser, site: Site) -> None:
+    browser.sign_in(token("olga"))
+    proposes_three(browser, site)
+    browser.go("proposals")
+    browser.sees(BECAUSE, "grub 2 loads anything", "of the other vendor")
+    browser.sign_in(token("otto"))
+    browser.go("inbox")
+    browser.sees("Waits for you 3", BECAUSE, "of the other vendor")
+    explains_one(browser)
+    confirms(browser, site)
     browser.go("history")
     browser.sees("olga explained proposal 1:", BECAUSE)
     browser.go("history/proposal/1")

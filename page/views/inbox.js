@@ -5,9 +5,10 @@ import { read } from './act.js';
 import { fill, h, heading, p, quiet } from './dom.js';
 import { named } from './impact.js';
 import { badge, barredBadge, proposalLink, requestLink } from './marks.js';
+import { shortReason } from './reasons.js';
 import { keepingFocus, paged } from './table.js';
 import { namesOf } from '../desk/proposals.js';
-import { ownProposals, times } from '../desk/proposed.js';
+import { lately, ownProposals, times } from '../desk/proposed.js';
 import { me, withYou } from '../desk/session.js';
 import { barredBy, standing } from '../desk/standing.js';
 import { inbox, listen, look } from '../desk/waiting.js';
@@ -20,9 +21,9 @@ import { ageWords, counted, voteWords } from '../formats/words.js';
 
 /**
  * What is known besides: the lists of today, an officer's own open proposals, when proposals were
- * made, and what they name.
+ * made, why, and what they name.
  * @typedef {{ now: Standing | null, own: ProposalRow[] | null, times: Map<number, string>,
- *   names: Map<number, string> }} Beside
+ *   reasons: Awaited<ReturnType<typeof lately>>, names: Map<number, string> }} Beside
  */
 
 /** @param {HTMLElement} place */
@@ -33,7 +34,9 @@ export function inboxView(place) {
     const lists = h('div', {});
     place.append(told, lists);
     /** @type {Beside} */
-    const beside = { now: null, own: null, times: new Map(), names: new Map() };
+    const beside = {
+        now: null, own: null, times: new Map(), reasons: new Map(), names: new Map(),
+    };
     const parts = partsOf(beside);
     const show = () => {
         const all = inbox();
@@ -49,6 +52,7 @@ export function inboxView(place) {
         if (!all) return;
         beside.own = await ownProposals();
         beside.times = await times();
+        beside.reasons = await lately();
         const some = all.requests.length + all.changed.length + all.under.length > 0;
         const now = some ? await standing() : null;
         if (now?.kind === 'value') beside.now = now.value;
@@ -150,7 +154,7 @@ function proposalTable(caption, empty, beside) {
             const names = beside.names.get(number) || named(proposal);
             return [
                 ['number', number],
-                ['title', proposalLink(number, names)],
+                ['title', proposalLink(number, names), shortReason(beside.reasons.get(number))],
                 ['from', withYou(officer)],
                 ['from', ageWords(beside.times.get(number) ?? '')],
             ];

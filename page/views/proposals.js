@@ -4,7 +4,7 @@ import { read } from './act.js';
 import { button, field, h, heading, quiet } from './dom.js';
 import { named } from './impact.js';
 import { badge, proposalLink } from './marks.js';
-import { inShort } from './reasons.js';
+import { shortReason } from './reasons.js';
 import { choices, paged } from './table.js';
 import { listed } from '../desk/lists.js';
 import { DESCRIBED, described } from '../desk/proposals.js';
@@ -37,7 +37,7 @@ function marksOf() {
         const made = all.get(number) ?? {
             link: proposalLink(number, named(proposal)),
             age: h('span'),
-            why: h('div', { class: 'quiet' }),
+            why: shortReason(),
         };
         all.set(number, made);
         return made;
@@ -63,7 +63,7 @@ async function tellMore(place, open, marks) {
     for (const row of open) {
         const { age, why } = marks.of(row);
         age.textContent = ageWords(made.get(row.number) ?? '');
-        why.textContent = inShort(said.get(row.number));
+        why.textContent = shortReason(said.get(row.number)).textContent;
     }
     const now = await standing();
     for (const row of now.kind === 'value' ? open.slice(0, DESCRIBED) : []) {

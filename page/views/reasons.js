@@ -30,11 +30,12 @@ export function reasonList(reasons) {
     return h('div', {}, older, h('ul', {}, rows));
 }
 
-// The newest one, as a list has it.
+// The newest one in short, as a list has it.
 /** @param {Reason[]} [reasons] */
-export function inShort(reasons = []) {
+export function shortReason(reasons = []) {
     const text = reasons.at(-1)?.text ?? '';
-    return text.length > SHORT ? `${text.slice(0, SHORT - 1)}…` : text;
+    const some = text.length > SHORT ? `${text.slice(0, SHORT - 1)}…` : text;
+    return h('div', { class: 'quiet' }, some);
 }
 
 // A field for a reason.

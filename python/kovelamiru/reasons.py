@@ -54,6 +54,6 @@ def reason_lines(reasons: Sequence[Reason]) -> list[str]:
                    for one in reasons[-SHOWN:]]
 
 
-def in_short(reasons: Sequence[Reason]) -> str:
-    """The newest of them, as a list has it; nothing where there is none."""
-    return cut(printable(reasons[-1].text), SHORT) if reasons else ""
+def with_reason(names: str, reasons: Sequence[Reason]) -> str:
+    """What a proposal names, and the newest reason in short, as a list has it."""
+    return f"{names}: {cut(printable(reasons[-1].text), SHORT)}" if reasons else names

@@ -5,6 +5,7 @@ from typing import Mapping, Sequence
 
 from ..answers import Counts, Me, Request, caller_of, shaped
 from ..proposals import counts_words, names_of
+from ..reasons import reasons_in, with_reason
 from ..standing import barred_by, revoked_of
 from ..waiting import ages_in, last_calls, own_proposals, waiting_of, yes_words
 from .run import Run
@@ -57,8 +58,12 @@ def inbox(run: Run) -> None:
 
 
 def officers(run: Run, others: Sequence[Counts], own: Sequence[Counts]) -> None:
-    ages = ages_in(last_calls(run.desk)) if others or own else {}
-    names = names_of(run.desk, [*others, *own]) if run.terminal.wide else {}
+    calls = last_calls(run.desk) if others or own else []
+    ages, names = ages_in(calls), {}
+    if run.terminal.wide:
+        reasons, told = reasons_in(calls), names_of(run.desk, [*others, *own])
+        names = {one.number: with_reason(told.get(one.number) or counts_words(one),
+                                         reasons.get(one.number, [])) for one in [*others, *own]}
     heads = ("PROPOSAL", "NAMES", "BY", "AGE")
     section(run, WAITS, heads, proposal_rows(others, ages, names))
     section(run, OWN, heads, proposal_rows(own, ages, names))

@@ -11,7 +11,7 @@ from ..faults import REFUSED, Refused, Stop, wrong
 from ..http import Call
 from ..proposals import DESCRIBED, counts_words, described
 from ..questions import plain_question, rule_words
-from ..reasons import Reason, in_short, reason_lines, reasons_in, reasons_of
+from ..reasons import Reason, reason_lines, reasons_in, reasons_of, with_reason
 from ..search import proposal_matches
 from ..standing import standing_of
 from ..waiting import ages_in, last_calls
@@ -39,9 +39,8 @@ def row_at_a_terminal(run: Run) -> Callable[[dict[str, Any]], tuple[object, ...]
         one = shaped(Counts, value)
         is_open = one.state == "open" and next(left, None) is not None
         names = described(run.desk, one, now) if is_open else ""
-        why = in_short(reasons.get(one.number, []))
-        return (one.number, (names or counts_words(one)) + (f": {why}" if why else ""),
-                one.officer, one.state, ages.get(one.number, "-"))
+        names = with_reason(names or counts_words(one), reasons.get(one.number, []))
+        return one.number, names, one.officer, one.state, ages.get(one.number, "-")
 
     return row
 
