@@ -94,8 +94,8 @@ LISTS: tuple[Command, ...] = (
              " dbx_info_msft, JSON or CSV; debian-dbx.hashes. The signature of an update isn't"
              " verified. Says first what is in it. More than 10,000 entries are several proposals."
              " Versions of Windows' boot programs and hashes of whole files are left out. Asks"
-             " first where it looks like a list of what is allowed: by its name (db, MokListRT), its"
-             " owner or what it has."),
+             " first where it looks like a list of what is allowed: by its name (db, MokListRT),"
+             " its owner or what it has."),
             "deskctl import DBXUpdate.bin --dry-run"),
     Command("proposals", REVOKING, "[--state S] [--not-mine] [--search TEXT]", "list the proposals",
             proposals, (*list_words(ALL, "those that you made"), NOT_MINE), "officers",
