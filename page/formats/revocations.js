@@ -1,6 +1,6 @@
 // What a file of revocations names, by its bytes alone: signature lists, with or without what
-// stands before them; the desk's CSV; a level's text; digests by Microsoft and Debian. The desk reads what is
-// sent again, and its reading is what counts.
+// stands before them; the desk's CSV; a level's text; digests by Microsoft and Debian. The desk
+// reads what is sent again, and its reading is what counts.
 
 import { certificateFault, isUtf16, looksLike, sentence } from './brought.js';
 import { givenOf, isCertificate } from './certificates.js';
@@ -22,9 +22,9 @@ import { filled } from './words.js';
  *   owners: Set<string>, given: Map<string, import('./certificates.js').Given>, notes: string[],
  *   refused: string, fault: string }} Revocations
  * kind: `lists`, `csv`, `level`, `microsoft` or `hashes`; `path` and `body` are what is sent;
- * `stamp` is a level's. `count` is of all entries that are sent, `skipped` of those that the desk skips, by
- * their kind, `aside` of those that are left out here, by why. `timed` have a time of revocation,
- * `given` are certificates that stand in it whole.
+ * `stamp` is a level's. `count` is of all entries that are sent, `skipped` of those that the desk
+ * skips, by their kind, `aside` of those that are left out here, by why. `timed` have a time of
+ * revocation, `given` are certificates that stand in it whole.
  * `notes` say what stood before lists, and what else there is to say. `refused` says in a word why
  * it can't be imported, `fault` in a sentence; both are empty if it can.
  */
