@@ -13,6 +13,7 @@ from checks.support.program import Program
 from checks.support.says import expect, fail, note, short
 from checks.support.server import Server
 from checks.support.steps import takes
+from checks.support.waits import until
 from checks.support.wire import REFUSALS
 
 LEVEL = b"sbat,1,2021030218\n"
@@ -150,12 +151,13 @@ class Site:
 
 
 def no_token_is_logged(site: Site, more: Sequence[str] = ()) -> None:
-    """Nor one of these texts; the log has each status."""
+    """Nor one of these texts; the log has each status, if not at once: nginx answers first."""
+    for status in site.statuses:
+        line = f" {status} "
+        until(10, f"{line}in the log", lambda: line in site.nginx.log, lambda: site.nginx.log)
     logs = "".join(one.read_text(encoding="latin-1") for one in site.room.glob("*.log"))
     for text in (*map(token, (*PEOPLE, "oscar", "olga-2")), *more):
         assert text not in logs, f"a token stands in a log: {text}"
-    for status in site.statuses:
-        assert f" {status} " in site.nginx.log, f"the log has no {status}: {site.nginx.log[-500:]}"
 
 
 Proxied = Callable[..., Site]
