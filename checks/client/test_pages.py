@@ -14,8 +14,8 @@ from checks.support.tools import ROOT, ran
 
 COMMANDS = (
     "submit requests request wait review withdraw return verdict compare facts list-certificate"
-    " list-digest unlist revoke raise import proposals proposal confirm drop get level minutes why"
-    " people me report token inbox watch pending"
+    " list-digest unlist revoke raise import proposals proposal confirm drop explain get level dbx"
+    " minutes why people me report token inbox watch pending"
 ).split()
 
 

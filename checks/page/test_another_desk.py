@@ -158,7 +158,7 @@ def test_a_proposal_of_another_desk_is_shown_before_its_last_question(
     opened(browser, "otto", "proposals/1")
     both.switch()
     browser.press("Confirm…")
-    browser.sees("Not confirmed. What it names or what it would do isn’t what was shown.")
+    browser.sees("Not confirmed. What it names, what it would do or what officers say of it isn’t")
     shows(browser, "proposals/1", OTHER)
     assert not browser.all("dialog")
     expect(both.minutes(), both.before, "the minutes of both desks")

@@ -255,7 +255,8 @@ def nobodys(machine: Machine) -> None:
     """The token for publishing is root's, and no person's; it reads the minutes. What is published
     is the desk's."""
     path = machine.room / "etc/kovelamiru-publish.token"
-    if (token := path.read_text().strip()) in machine.tokens.values() or path.stat().st_mode & 0o077:
+    token, others = path.read_text().strip(), path.stat().st_mode & 0o077
+    if token in machine.tokens.values() or others:
         fail("the token for publishing is somebody's, or others read it")
     machine.tokens["publisher"] = token
     status, people = machine.asks("publisher", "/people", port=machine.proxy)
