@@ -175,7 +175,7 @@ def test_a_damaged_copy_is_made_anew(mirror: Mirror) -> None:
 
 def test_it_says_how_far_it_is(mirror: Mirror) -> None:
     """Ten seconds are none here."""
-    edit = ("mirror.py", r"= 3600, 1 << 30, 10\.0$", "= 3600, 1 << 30, 0.0")
+    edit = ("publish/mirror.py", r"= 3600, 1 << 30, 10\.0$", "= 3600, 1 << 30, 0.0")
     quick = mirror.place.changed("quick", edit, tool=MIRROR)
     again(mirror.place, 5)
     said = mirror.runs(0, ": fetching\n", by=quick)
