@@ -1,6 +1,6 @@
 //! The subcommands that the words name, with the values that they spell.
-use crate::causes::{Opened, opened_by};
 use crate::alone::{facts_of, list_in, pack_input, ranges_of};
+use crate::causes::{Opened, opened_by};
 use crate::line::{AuditWords, FollowWords, PersonWords, ServeWords, Words, WordsFault};
 use crate::telling::{MISUSED, tell_fault, tell_stop};
 use crate::values::{
