@@ -7,8 +7,9 @@
 # are, and `desk minutes` the minutes. Time is the processor's and the clock's, of one run each;
 # memory is the most that a process had beyond one of the same subcommand on a desk without calls.
 # The program is ./desk's, or the one that $DESK_BENCH_PROGRAM names; the files are in
-# $DESK_BENCH_DISK, or TMPDIR or /tmp, and take 600 MB where there are a million calls. It fails where
-# an audit takes more memory than three times the desk's file. Not part of the gate: it needs python3.
+# $DESK_BENCH_DISK, or TMPDIR or /tmp, and take 600 MB where there are a million calls. It fails
+# where an audit takes more memory than three times the desk's file. Not part of the gate: it needs
+# python3.
 set -eu
 . "$(dirname -- "$(readlink -f -- "$0")")/../checks/common.sh"
 needs python3

@@ -2,9 +2,10 @@
 # bench/export.sh [PROGRAM] [DIGESTS] [ROUNDS]: the cost of an export of dbx, of 100,000 digests or
 # the given number, in one run with sqlite3's shell on the same file, `SELECT .. ORDER BY digest`
 # into `xxd -r -p`, which writes the same entries:
-#   time     median seconds of processor and clock over the rounds, in turn; whole, and less what opening takes (`desk level`, and a
-#            SELECT of the desk's row)
-#   memory   the most that malloc had given while dbx was written, beyond what it had given when the level's first byte was
+#   time     median seconds of processor and clock over the rounds, in turn; whole, and less what
+#            opening takes (`desk level`, and a SELECT of the desk's row)
+#   memory   the most that malloc had given while dbx was written, beyond what it had given when the
+#            level's first byte was
 # Fails if the two write different bytes, or if that is over 1 MiB. sqlite3 inserts the digests into
 # the desk's file. Not part of the gate: it needs sqlite3, xxd, python3 and a C compiler, for a
 # malloc that counts.
@@ -22,7 +23,10 @@ import hashlib, os, shlex, statistics, subprocess, sys, time
 PROGRAM, ROOM = sys.argv[1:3]
 DIGESTS, ROUNDS = map(int, sys.argv[3:])
 FILE, OWNER = f"{ROOM}/desk.db", "33221100554477668899AABBCCDDEEFF"
-rows = "".join(f"INSERT INTO revoked_digests VALUES (X'{hashlib.sha256(b'%d' % n).hexdigest()}');\n" for n in range(DIGESTS))
+rows = "".join(
+    f"INSERT INTO revoked_digests VALUES (X'{hashlib.sha256(b'%d' % n).hexdigest()}');\n"
+    for n in range(DIGESTS)
+)
 subprocess.run(["sqlite3", FILE], input=f"BEGIN;\n{rows}COMMIT;\n".encode(), check=True)
 
 
@@ -32,7 +36,10 @@ class Run:
     def __init__(self, line, preload=""):
         with open(f"{ROOM}/out", "wb") as out, open(f"{ROOM}/err", "wb") as err:
             start = time.perf_counter()
-            child = subprocess.Popen(["sh", "-c", line], stdout=out, stderr=err, env={**os.environ, "LD_PRELOAD": preload} if preload else None)
+            child = subprocess.Popen(
+                ["sh", "-c", line], stdout=out, stderr=err,
+                env={**os.environ, "LD_PRELOAD": preload} if preload else None
+            )
             _, status, used = os.wait4(child.pid, 0)
             self.clock = time.perf_counter() - start
         child.returncode = os.waitstatus_to_exitcode(status)
@@ -46,7 +53,10 @@ at, desk = shlex.quote(FILE), shlex.quote(PROGRAM)
 LINES = {
     "desk dbx": f"exec {desk} dbx {at}",
     "desk level": f"exec {desk} level {at}",
-    "sqlite3 | xxd": f"sqlite3 {at} \"SELECT '{OWNER}' || hex(digest) FROM revoked_digests ORDER BY digest\" | xxd -r -p",
+    "sqlite3 | xxd": (
+        f"sqlite3 {at} \"SELECT '{OWNER}' || hex(digest) FROM revoked_digests ORDER BY digest\""
+        " | xxd -r -p"
+    ),
     "sqlite3": f"sqlite3 {at} 'SELECT stamp FROM desk'",
 }
 runs = {name: [] for name in LINES}
@@ -56,14 +66,20 @@ for _ in range(ROUNDS):
 ours, theirs = runs["desk dbx"][0].out, runs["sqlite3 | xxd"][0].out
 if ours[28:] != theirs or len(ours) != 28 + 48 * DIGESTS:
     sys.exit("the shell and the desk write other entries")
-times = {name: [statistics.median(getattr(run, what) for run in all) for what in ("processor", "clock")] for name, all in runs.items()}
+times = {
+    name: [statistics.median(getattr(run, what) for run in all) for what in ("processor", "clock")]
+    for name, all in runs.items()
+}
 for name, (processor, clock) in times.items():
     print(f"{name:14} processor {processor:.3f} s, clock {clock:.3f} s")
 ratios = [a / b for a, b in zip(times["desk dbx"], times["sqlite3 | xxd"])]
 print("whole: processor %.2f, clock %.2f of the shell's" % tuple(ratios))
 alone = [(a - b) / (c - d) for a, b, c, d in zip(*(times[name] for name in LINES))]
 print("less opening: processor %.2f, clock %.2f of the shell's" % tuple(alone))
-heap = {name: [int(word) for word in Run(LINES[name], f"{ROOM}/heap.so").err.split("heap")[-1].split()] for name in ("desk dbx", "desk level")}
+heap = {
+    name: [int(word) for word in Run(LINES[name], f"{ROOM}/heap.so").err.split("heap")[-1].split()]
+    for name in ("desk dbx", "desk level")
+}
 beyond = heap["desk dbx"][1] - heap["desk level"][0]
 print(f"{len(ours)} bytes; memory beyond the open desk: {beyond} bytes, of {heap['desk level'][0]}")
 if beyond > 1 << 20:

@@ -74,7 +74,10 @@ two = 2 * least["openssl dgst -sha256"]
 print(f"{'':22} {'seconds':>9} {'facts to it':>12} {'two openssl dgst':>17} {'memory':>9}")
 for name, _ in rivals:
     ratio = least["desk facts"] / least[name]
-    print(f"{name:22} {least[name]:9.3f} {ratio:12.2f} {least[name] / two:17.2f} {peak[name] // 1024:5} MiB")
+    print(
+        f"{name:22} {least[name]:9.3f} {ratio:12.2f} {least[name] / two:17.2f}"
+        f" {peak[name] // 1024:5} MiB"
+    )
 if "pesign -h" in least:
     both = least["sha256sum"] + least["pesign -h"]
     print(f"{'sha256sum, pesign -h':22} {both:9.3f} {least['desk facts'] / both:12.2f}")

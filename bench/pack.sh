@@ -1,6 +1,7 @@
 #!/bin/sh
 # Times `desk pack` against `sort -u` followed by `xxd -r -p` on the same lines, in one run.
-# Prints, for 10,000 and 100,000 lines, the least of 7 rounds of each in milliseconds and their ratio.
+# Prints, for 10,000 and 100,000 lines, the least of 7 rounds of each in milliseconds and their
+# ratio.
 set -eu
 . "$(dirname -- "$(readlink -f -- "$0")")/../checks/common.sh"
 needs python3 sort xxd
@@ -18,7 +19,9 @@ def least(command, lines, out):
     for _ in range(ROUNDS):
         with open(lines, "rb") as given, open(out, "wb") as taken:
             start = time.perf_counter()
-            subprocess.run(command, stdin=given, stdout=taken, check=True, env={**os.environ, "LC_ALL": "C"})
+            subprocess.run(
+                command, stdin=given, stdout=taken, check=True, env={**os.environ, "LC_ALL": "C"}
+            )
             times.append(time.perf_counter() - start)
     return min(times) * 1000
 
@@ -35,5 +38,8 @@ with tempfile.TemporaryDirectory() as room:
             packed, sorted_ = one.read(), other.read()
         digests = b"".join(packed[at + 16 : at + 48] for at in range(28, len(packed), 48))
         assert digests == sorted_, "the list holds the sorted digests"
-        print(f"{count} lines: desk pack {desk:.1f} ms, sort -u | xxd -r -p {peer:.1f} ms, ratio {desk / peer:.2f}")
+        print(
+            f"{count} lines: desk pack {desk:.1f} ms, sort -u | xxd -r -p {peer:.1f} ms, ratio"
+            f" {desk / peer:.2f}"
+        )
 PYTHON

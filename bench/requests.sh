@@ -6,8 +6,9 @@
 # are RevokeDigest and their Confirms, 5 are proposed and dropped, the others are submissions,
 # reviews and listed digests. Then every kind of request is made some twenty times, with new
 # digests, components and proposals; the ratio to the first size follows each. It fails if a head of
-# 16,000 line ends takes more than three times the instructions of one with a field as long. Not part
-# of the gate: it needs valgrind and python3. The three sizes took two minutes of one processor.
+# 16,000 line ends takes more than three times the instructions of one with a field as long. Not
+# part of the gate: it needs valgrind and python3. The three sizes took two minutes of one
+# processor.
 set -eu
 . "$(dirname -- "$(readlink -f -- "$0")")/../checks/common.sh"
 needs callgrind_control python3 valgrind

@@ -3,18 +3,20 @@
 # the given (even) number, in one run. One client on loopback makes one after another, with a
 # connection each. A line has the subject, the desk's figure, its peer's and the ratio of the two,
 # by medians over the rounds (9), in which the processes take turns:
-#   GET /level          beside python3's own http.server, which answers the same client with the same bytes
-#   POST a revocation   of one officer to /dbx/digests, a new digest each, and of another officer its Confirm, in turn, a key and a
-#                       commit each, beside sqlite3's shell, which puts the same rows as text into a file of the same tables, one
-#                       transaction a call, with WAL and synchronous=FULL
-#   memory              the most that a server had (VmHWM) after 1,000 GET /level, beside http.server's; and what an image of
-#                       128 MiB by POST /verdict then adds, beside the image's length
+#   GET /level          beside python3's own http.server, which answers the same client with the
+#                       same bytes
+#   POST a revocation   of one officer to /dbx/digests, a new digest each, and of another officer
+#                       its Confirm, in turn, a key and a commit each, beside sqlite3's shell, which
+#                       puts the same rows as text into a file of the same tables, one transaction a
+#                       call, with WAL and synchronous=FULL
+#   memory              the most that a server had (VmHWM) after 1,000 GET /level, beside
+#                       http.server's; and what an image of 128 MiB by POST /verdict then adds,
+#                       beside the image's length
 # Times are those of whole processes, and then the same less an idle one of the same round: a server
 # whose one connection has no request, a shell that counts one table. Processor time doesn't include
 # the client's; the clock does. Fails if a response isn't the expected one, or if the desk and the
-# shell hold different rows. The desks are in TMPDIR or /tmp, whose disk is measured. It ends after half
-# an hour at most. Not part of the gate: it needs python3,
-# sqlite3 and xxd.
+# shell hold different rows. The desks are in TMPDIR or /tmp, whose disk is measured. It ends after
+# half an hour at most. Not part of the gate: it needs python3, sqlite3 and xxd.
 set -eu
 . "$(dirname -- "$(readlink -f -- "$0")")/../checks/common.sh"
 needs python3 sqlite3 xxd
@@ -27,7 +29,7 @@ leave_serving() {
 }
 trap leave_serving EXIT
 
-# ---- a desk of two officers, and an image of 128 MiB: its one section is as long as the file allows
+# ---- a desk of two officers, and an image of 128 MiB: one section as long as the file allows
 
 "$program" init "$room/desk.db" 00112233-4455-6677-8899-aabbccddeeff
 echo olga-token-000006 | "$program" person "$room/desk.db" olga officer k1 > "$room/person"
@@ -93,7 +95,8 @@ def write(name, data):
 
 
 class Child:
-    """A process, timed from its start to its end. Until then its number stands in the file `live`."""
+    """A process, timed from its start to its end. Until then its number stands in the file
+    `live`."""
 
     def __init__(self, words, given=subprocess.DEVNULL):
         self.words = words
@@ -170,23 +173,30 @@ def post(token, path, body, *fields):
 
 
 def ok(kind, body):
-    return f"HTTP/1.1 200 OK\r\nContent-Type: {kind}\r\nContent-Length: {len(body)}\r\nConnection: close\r\n\r\n".encode() + body
+    head = f"HTTP/1.1 200 OK\r\nContent-Type: {kind}\r\nContent-Length: {len(body)}\r\n"
+    return f"{head}Connection: close\r\n\r\n".encode() + body
 
 
 def revocation(number, digest):
     """The two requests of a revocation, each with the response that is due to it."""
-    proposed = post(OLGA, "/dbx/digests", b'{"digest":"%s"}' % digest.encode(), f"Desk-Key: k{number}")
+    proposed = post(
+        OLGA, "/dbx/digests", b'{"digest":"%s"}' % digest.encode(), f"Desk-Key: k{number}"
+    )
     yield proposed, ok("application/json", b'{"proposal":%d,"reply":"proposed"}' % number)
     confirmed = post(OTTO, f"/proposals/{number}/confirm", b"", f"Desk-Key: k{number}")
     counts = b'"certificates":0,"components":0,"digests":1,"passed":0'
-    yield confirmed, ok("application/json", b'{%s,"proposal":%d,"reply":"confirmed"}' % (counts, number))
+    yield confirmed, ok(
+        "application/json", b'{%s,"proposal":%d,"reply":"confirmed"}' % (counts, number)
+    )
 
 
 GET = head(OLGA, "GET /level")
 LEVEL = ok("text/plain", content("level"))
 GET_LEVEL = [(GET, LEVEL)] * COUNT
 DIGESTS = [hashlib.sha256(b"%d" % n).hexdigest() for n in range(COUNT // 2)]
-REVOCATIONS = [each for number, digest in enumerate(DIGESTS, 1) for each in revocation(number, digest)]
+REVOCATIONS = [
+    each for number, digest in enumerate(DIGESTS, 1) for each in revocation(number, digest)
+]
 VERDICT = ok("application/json", b'{"verdict":"not-listed"}')
 
 # ---- the processes that are timed
@@ -229,21 +239,30 @@ def shell(script):
 
 
 def transactions(number, digest):
-    """What the two requests of a revocation change; the desk's first calls are those of its officers."""
+    """What the two requests of a revocation change; the desk's first calls are those of its
+    officers."""
     item = f"INSERT INTO proposal_items VALUES ({number}, 0, 'digest', X'{digest}', '', 0);"
     row = f"INSERT INTO proposals VALUES ({number}, 'olga', 'digest', 0, 0, 'open');"
-    call = f"INSERT INTO calls VALUES ({2 * number + 1}, 'olga', 'k{number}', 'revoke-digest {digest}', 'proposed {number}');"
+    call = (
+        f"INSERT INTO calls VALUES ({2 * number + 1}, 'olga', 'k{number}',"
+        f" 'revoke-digest {digest}', 'proposed {number}');"
+    )
     proposed = f"BEGIN;\n{item}\n{row}\n{call}\nCOMMIT;\n"
     revoked = f"INSERT INTO revoked_digests VALUES (X'{digest}');"
     closed = f"UPDATE proposals SET state = 'confirmed' WHERE no = {number};"
-    call = f"INSERT INTO calls VALUES ({2 * number + 2}, 'otto', 'k{number}', 'confirm {number}', 'confirmed {number} 1 0 0 0');"
+    call = (
+        f"INSERT INTO calls VALUES ({2 * number + 2}, 'otto', 'k{number}', 'confirm {number}',"
+        f" 'confirmed {number} 1 0 0 0');"
+    )
     return f"{proposed}BEGIN;\n{revoked}\n{closed}\n{call}\nCOMMIT;\n"
 
 
 PRAGMAS = "PRAGMA journal_mode=WAL;\nPRAGMA synchronous=FULL;\n"
 write("answer", LEVEL)
 write("idle.sql", f"{PRAGMAS}SELECT count(*) FROM desk;\n".encode())
-write("rows.sql", (PRAGMAS + "".join(transactions(number, digest) for number, digest in enumerate(DIGESTS, 1))).encode())
+write("rows.sql", (
+    PRAGMAS + "".join(transactions(number, digest) for number, digest in enumerate(DIGESTS, 1))
+).encode())
 RUNS = {
     "desk idle": lambda: idle(desk("read")),
     "desk GET": lambda: served(desk("read"), GET_LEVEL),
@@ -260,10 +279,14 @@ def same_rows():
     dumps = []
     for name in ("ours", "shell"):
         words = ["sqlite3", "-batch", f"{ROOM}/{name}.db"]
-        found = subprocess.run(words, input=b"PRAGMA integrity_check;\n.dump\n", capture_output=True, check=True, timeout=SECONDS)
+        found = subprocess.run(
+            words, input=b"PRAGMA integrity_check;\n.dump\n", capture_output=True, check=True,
+            timeout=SECONDS
+        )
         dumps.append(found.stdout)
     ours, theirs = dumps
-    return ours == theirs and ours.startswith(b"ok\n") and ours.count(b"'confirmed ") == len(DIGESTS)
+    count = ours.count(b"'confirmed ")
+    return ours == theirs and ours.startswith(b"ok\n") and count == len(DIGESTS)
 
 
 # ---- the results
@@ -285,14 +308,16 @@ def middle(costs, name, is_less):
 def tell_times(costs, what, ours, theirs):
     for is_less in (False, True):
         how = f"{what}, less idle" if is_less else what
-        (clock, processor), (other_clock, other_processor) = middle(costs, ours, is_less), middle(costs, theirs, is_less)
+        clock, processor = middle(costs, ours, is_less)
+        other_clock, other_processor = middle(costs, theirs, is_less)
         tell(f"{how}: requests a second", COUNT / clock, COUNT / other_clock, 0)
         tell(f"{how}: clock, s", clock, other_clock)
         tell(f"{how}: processor, s", processor, other_processor)
 
 
 def asked_often(words, more):
-    """A server that was asked for the level a thousand times, and takes so many connections more."""
+    """A server that was asked for the level a thousand times, and takes so many connections
+    more."""
     server = Server(words, GETS + more)
     for _ in range(GETS):
         server.ask(GET, LEVEL)
@@ -319,7 +344,10 @@ def tell_memory():
     tell("an image, its length: more memory, bytes", after - before, len(image), 0)
 
 
-print(f"{COUNT:,} requests, {ROUNDS} rounds; load {os.getloadavg()[0]:.1f} on {os.cpu_count()} processors")
+print(
+    f"{COUNT:,} requests, {ROUNDS} rounds; load {os.getloadavg()[0]:.1f} on {os.cpu_count()}"
+    " processors"
+)
 COSTS = {name: [] for name in RUNS}
 for _ in range(ROUNDS):
     for name, run in RUNS.items():

@@ -16,7 +16,10 @@ PROGRAM, DESK = sys.argv[1:3]
 ROUNDS = int(sys.argv[3])
 RUNS = {
     "desk level": [PROGRAM, "level", DESK],
-    "sqlite3": ["sqlite3", DESK, "SELECT stamp FROM desk; SELECT name, generation FROM components ORDER BY name;"],
+    "sqlite3": [
+        "sqlite3", DESK,
+        "SELECT stamp FROM desk; SELECT name, generation FROM components ORDER BY name;"
+    ],
 }
 
 
@@ -38,7 +41,10 @@ for _ in range(ROUNDS):
         came[name].append(run(words))
 columns = {name: list(zip(*runs)) for name, runs in came.items()}
 for at, what in enumerate(("clock, ms", "processor, ms", "memory, MB")):
-    cells = [f"{name} least {min(columns[name][at]):.1f}, median {statistics.median(columns[name][at]):.1f}" for name in RUNS]
+    cells = [
+        f"{name} least {min(columns[name][at]):.1f},"
+        f" median {statistics.median(columns[name][at]):.1f}" for name in RUNS
+    ]
     ours, theirs = (statistics.median(columns[name][at]) for name in RUNS)
     print(f"{what:14}" + "; ".join(cells) + f"; ratio {ours / theirs:.2f}")
 PYTHON

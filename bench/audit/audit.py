@@ -25,7 +25,10 @@ class Run(NamedTuple):
     memory: int
 
     def told(self, base: "Run") -> str:
-        return f"{self.processor:.2f} s of processor time, {self.clock:.2f} by the clock, {(self.memory - base.memory) / 1e6:.1f} MB of memory"
+        return (
+            f"{self.processor:.2f} s of processor time, {self.clock:.2f} by the clock,"
+            f" {(self.memory - base.memory) / 1e6:.1f} MB of memory"
+        )
 
 
 def ran(program: Program, out: str, *words: str) -> Run:
@@ -64,11 +67,17 @@ def measured(program: Program, count: int, base: dict[str, Run]) -> dict[str, Ru
     if not base:
         return found
     size = os.path.getsize(path)
-    print(f"{count:,} calls, minutes of {os.path.getsize(minutes) / 1e6:.1f} MB, a file of {size / 1e6:.1f} MB")
+    print(
+        f"{count:,} calls, minutes of {os.path.getsize(minutes) / 1e6:.1f} MB, a file of"
+        f" {size / 1e6:.1f} MB"
+    )
     for name in ("audit", "minutes", "level"):
         print(f"  desk {name}: {found[name].told(base[name])}")
     memory = found["audit"].memory - base["audit"].memory
-    print(f"  an audit: {found['audit'].processor / count * 1e6:.0f} us of processor time a call, {memory / size:.2f} of the file in memory")
+    print(
+        f"  an audit: {found['audit'].processor / count * 1e6:.0f} us of processor time a call,"
+        f" {memory / size:.2f} of the file in memory"
+    )
     if memory > MOST_MEMORY * size:
         fail(f"an audit takes more than {MOST_MEMORY} of the desk's file in memory")
     return found

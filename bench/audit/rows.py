@@ -22,8 +22,8 @@ class Line(NamedTuple):
 
 
 class History:
-    """The calls of a desk, in their order, and the rows that they leave in each table but that of the calls. A state that changes is
-    a list of one."""
+    """The calls of a desk, in their order, and the rows that they leave in each table but that of
+    the calls. A state that changes is a list of one."""
 
     def __init__(self) -> None:
         self.requests, self.proposals, self.listed = 0, 0, 0
@@ -69,18 +69,33 @@ class History:
         number = self.requests
         file, image, returned = (digest_of(it, number) for it in ("file", "image", "returned"))
         state = ["open"]
-        self.row("requests", number, "ann", f"shim 15.8-{number}", 1024, 0, file, image, image, state)
+        self.row(
+            "requests", number, "ann", f"shim 15.8-{number}", 1024, 0, file, image, image, state
+        )
         self.row("request_components", number, 0, "sbat", 1)
         self.row("request_components", number, 1, "shim", 4)
         components = "1:sbat,4:shim"
-        yield Line("ann", f"submit 1024 0 {file.hex()} {image.hex()} {image.hex()} - {components} shim 15.8-{number}", f"submitted {number}")
+        yield Line(
+            "ann",
+            f"submit 1024 0 {file.hex()} {image.hex()} {image.hex()} - {components} shim"
+            f" 15.8-{number}",
+            f"submitted {number}"
+        )
         for reviewer, after in (("rita", "open"), ("raul", "approved")):
             state[0] = after
             self.row("votes", number, reviewer, "yes", "built again, the same bytes")
-            yield Line(reviewer, f"review {number} yes built again, the same bytes", f"reviewed {number} {after}")
+            yield Line(
+                reviewer, f"review {number} yes built again, the same bytes",
+                f"reviewed {number} {after}"
+            )
         state[0] = "signed"
         self.row("returns", number, "sid", 1080, returned, image)
-        yield Line("sid", f"return {number} 1080 0 {returned.hex()} {image.hex()} {image.hex()} {TBS} {components}", f"returned {number}")
+        yield Line(
+            "sid",
+            f"return {number} 1080 0 {returned.hex()} {image.hex()} {image.hex()} {TBS}"
+            f" {components}",
+            f"returned {number}"
+        )
 
     def listing(self) -> Iterator[Line]:
         self.listed += 1
@@ -109,7 +124,9 @@ def calls(minutes: str, history: History, count: int | None) -> Iterator[tuple]:
             yield row
 
 
-def filled(program: Program, path: str, minutes: str, history: History, count: int | None = None) -> None:
+def filled(
+    program: Program, path: str, minutes: str, history: History, count: int | None = None
+) -> None:
     """The desk of so many calls of a history, or of all, in a file, and their minutes."""
     program.gives("init", path, OWNER)
     connection = sqlite3.connect(path)
@@ -117,7 +134,9 @@ def filled(program: Program, path: str, minutes: str, history: History, count: i
     for table, rows in history.rows.items():
         if rows:
             plain = ([it[0] if isinstance(it, list) else it for it in row] for row in rows)
-            connection.executemany(f"INSERT INTO {table} VALUES({','.join('?' * len(rows[0]))})", plain)
+            connection.executemany(
+                f"INSERT INTO {table} VALUES({','.join('?' * len(rows[0]))})", plain
+            )
     if "components" in history.rows:
         connection.execute("UPDATE desk SET stamp = ?", (STAMP,))
     connection.commit()

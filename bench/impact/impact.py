@@ -17,10 +17,13 @@ LIBRARY = sys.argv[2]
 SIZES = [int(it) for it in sys.argv[3:]] or [1_000, 100_000]
 # So many images, or some more, are touched at a desk where each is another.
 TOUCHED = 100
-# A further call may take so many times the instructions of one of the first, and an impact without images so many bytes of memory
-# more than at the first size.
+# A further call may take so many times the instructions of one of the first, and an impact without
+# images so many bytes of memory more than at the first size.
 MOST_RATIO, MOST_MEMORY = 1.1, 4_096
-SBAT = b"sbat,1,SBAT Version,sbat,1,https://github.com/rhboot/shim/blob/main/SBAT.md\nshim,4,UEFI shim,shim,1,https://github.com/rhboot/shim\n"
+SBAT = (
+    b"sbat,1,SBAT Version,sbat,1,https://github.com/rhboot/shim/blob/main/SBAT.md\n"
+    b"shim,4,UEFI shim,shim,1,https://github.com/rhboot/shim\n"
+)
 
 
 class Mixed(History):
@@ -45,8 +48,12 @@ class Submissions(History):
         return [self.submission() for _ in range(100)]
 
     def touching(self):
-        digests = (authenticode(self.image(it)) for it in range(1, self.requests, self.requests // TOUCHED))
-        return "/imports/csv", "".join(["kind,value,generation\n", *(f"sha256,{it},\n" for it in digests)]).encode()
+        digests = (
+            authenticode(self.image(it)) for it in range(1, self.requests, self.requests // TOUCHED)
+        )
+        return "/imports/csv", "".join(
+            ["kind,value,generation\n", *(f"sha256,{it},\n" for it in digests)]
+        ).encode()
 
 
 class Loaders(Submissions):
@@ -57,8 +64,8 @@ class Loaders(Submissions):
 
 
 class Measured(NamedTuple):
-    """Of a desk of so many calls: the instructions and the memory of an impact without images, and of one with some, of so many
-    bytes."""
+    """Of a desk of so many calls: the instructions and the memory of an impact without images, and
+    of one with some, of so many bytes."""
 
     calls: int
     instructions: float
@@ -70,7 +77,8 @@ class Measured(NamedTuple):
 
 
 def heaps(program, desk, requests):
-    """The most memory that each request takes above what the server had when it came, in bytes, and its response's length."""
+    """The most memory that each request takes above what the server had when it came, in bytes, and
+    its response's length."""
     with Server(program, desk, len(requests), env={"LD_PRELOAD": LIBRARY}) as server:
         lengths = [len(server.ask(it, ends=False)) for it in requests]
         _, err = server.process.communicate(timeout=60)
@@ -83,7 +91,10 @@ def heaps(program, desk, requests):
 def measured(program, desk, history):
     """Two proposals, of which one names an image or more."""
     calls, without, some = history.calls, history.proposals + 1, history.proposals + 2
-    proposals = [history.proposed(*it) for it in (("/dbx/digests", named(digest_of("nobody's", 0))), history.touching())]
+    proposals = [
+        history.proposed(*it)
+        for it in (("/dbx/digests", named(digest_of("nobody's", 0))), history.touching())
+    ]
     impacts = [got("otto", f"/proposals/{it}/impact") for it in (without, some)]
     counting = Counting(program, desk)
     with counting.server as server:
@@ -96,15 +107,19 @@ def measured(program, desk, history):
         instructions = [counting.counted([it]) for it in impacts]
     # (the first ones put the store's pages into memory, where later ones find them)
     first, second = heaps(program, desk, impacts * 5)[-2:]
-    return Measured(calls, instructions[0], first[0], images[1], second[1], instructions[1], second[0])
+    return Measured(
+        calls, instructions[0], first[0], images[1], second[1], instructions[1], second[0]
+    )
 
 
 def shows(what, found):
     print(what)
     for it in found:
         print(
-            f"  {it.calls:,} calls: {it.instructions:,.0f} instructions, {it.instructions / it.calls:,.0f} a call, {it.memory:,} bytes of"
-            f" memory; with {it.images:,} images {it.more_instructions:,.0f} instructions, a response of {it.length:,} bytes,"
+            f"  {it.calls:,} calls: {it.instructions:,.0f} instructions,"
+            f" {it.instructions / it.calls:,.0f} a call, {it.memory:,} bytes of"
+            f" memory; with {it.images:,} images {it.more_instructions:,.0f} instructions, a"
+            f" response of {it.length:,} bytes,"
             f" {it.more_memory:,} bytes of memory"
         )
     first, last = found[0], found[-1]

@@ -57,7 +57,8 @@ class Large(History):
 
 def spent(server: Server) -> float:
     """The server's seconds of the processor."""
-    return int(Path(f"/proc/{server.process.pid}/schedstat").read_text(encoding="ascii").split()[0]) / 1e9
+    text = Path(f"/proc/{server.process.pid}/schedstat").read_text(encoding="ascii")
+    return int(text.split()[0]) / 1e9
 
 
 def asks(server: Server, name: str, path: str, times: int) -> float:
@@ -71,7 +72,10 @@ def asks(server: Server, name: str, path: str, times: int) -> float:
 
 def behind(proxy: Nginx, name: str, path: str) -> int:
     """The bytes of an answer as a browser gets it from nginx, with its head."""
-    fields = [f"GET {path} HTTP/1.1", f"Host: 127.0.0.1:{proxy.port}", "Accept-Encoding: gzip", "Connection: close"]
+    fields = [
+        f"GET {path} HTTP/1.1", f"Host: 127.0.0.1:{proxy.port}", "Accept-Encoding: gzip",
+        "Connection: close"
+    ]
     fields += [f"Desk-Token: {token(name)}"] if name else []
     with socket.create_connection(("127.0.0.1", proxy.port), timeout=600) as peer:
         peer.sendall("\r\n".join([*fields, "", ""]).encode())
@@ -82,15 +86,20 @@ def behind(proxy: Nginx, name: str, path: str) -> int:
 def answers(server: Server, proxy: Nginx) -> None:
     print("seconds of the desk's processor time, and bytes behind nginx")
     for name, path, times in (
-        ("rita", "/requests", 1), ("rita", "/requests/from/1", 5), ("rita", "/waiting", 3), ("rita", "/changes", 50),
-        ("ann", "/waiting", 3), ("ann", "/changes", 3), ("sid", "/waiting", 3), ("otto", "/proposals", 20), ("otto", "/waiting", 50),
+        ("rita", "/requests", 1), ("rita", "/requests/from/1", 5), ("rita", "/waiting", 3),
+        ("rita", "/changes", 50), ("ann", "/waiting", 3), ("ann", "/changes", 3),
+        ("sid", "/waiting", 3), ("otto", "/proposals", 20), ("otto", "/waiting", 50),
     ):
-        print(f"  {name} GET {path}: {asks(server, name, path, times):.6f} s, {behind(proxy, name, path):,} bytes")
+        print(
+            f"  {name} GET {path}: {asks(server, name, path, times):.6f} s,"
+            f" {behind(proxy, name, path):,} bytes"
+        )
 
 
 def slow(browser: Browser) -> None:
     browser.devtools(
-        "Network.emulateNetworkConditions", offline=False, latency=LATENCY, downloadThroughput=DOWN, uploadThroughput=UP,
+        "Network.emulateNetworkConditions", offline=False, latency=LATENCY,
+        downloadThroughput=DOWN, uploadThroughput=UP,
     )
 
 
@@ -111,7 +120,10 @@ def signs_in(browser: Browser, proxy: Nginx, name: str) -> None:
     asked = [path for path in browser.script(PATHS)[len(files):] if not path.startswith("/page/")]
     page = sum(behind(proxy, "", path) for path in ["/", *dict.fromkeys(files)])
     sizes = {path: behind(proxy, name, path) for path in dict.fromkeys(asked)}
-    print(f"{name} signs in: the page {page:,} bytes, {opened:.1f} s; the desk's answers {sum(sizes.values()):,} bytes, the first row after {row / 1000:.2f} s")
+    print(
+        f"{name} signs in: the page {page:,} bytes, {opened:.1f} s; the desk's answers"
+        f" {sum(sizes.values()):,} bytes, the first row after {row / 1000:.2f} s"
+    )
     print(f"  {sizes}")
     if name == "rita":
         browser.go("check")
@@ -127,7 +139,10 @@ def types(person: Person, line: str) -> None:
     person.does(line)
     ended = resource.getrusage(resource.RUSAGE_CHILDREN)
     took = ended.ru_utime + ended.ru_stime - begun.ru_utime - begun.ru_stime
-    print(f"{person.name}: deskctl {line[:40]}: {took:.2f} s of processor time, {time.monotonic() - clock:.2f} by the clock")
+    print(
+        f"{person.name}: deskctl {line[:40]}: {took:.2f} s of processor time,"
+        f" {time.monotonic() - clock:.2f} by the clock"
+    )
 
 
 with alone(sys.argv[1]) as program:
@@ -145,8 +160,12 @@ with alone(sys.argv[1]) as program:
         finally:
             browser.quit()
         command = compiled(program.room)
-        tag = server.ask(got("otto", f"/proposals/{history.proposals}"), ends=False).split(b'"tag":"')[1][:64].decode()
-        people = {name: Person(command, program.room, name, f"http://127.0.0.1:{server.port}") for name in ("ann", "rita", "otto")}
+        shown = server.ask(got("otto", f"/proposals/{history.proposals}"), ends=False)
+        tag = shown.split(b'"tag":"')[1][:64].decode()
+        people = {
+            name: Person(command, program.room, name, f"http://127.0.0.1:{server.port}")
+            for name in ("ann", "rita", "otto")
+        }
         for name in ("rita", "otto", "ann"):
             types(people[name], "inbox")
             types(people[name], "watch --once")

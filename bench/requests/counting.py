@@ -22,12 +22,17 @@ class Counting:
 
     def __init__(self, program, desk):
         self.out = program.at("callgrind.out")
-        tool = ["valgrind", "--tool=callgrind", "--instr-atstart=no", f"--callgrind-out-file={self.out}"]
+        tool = [
+            "valgrind", "--tool=callgrind", "--instr-atstart=no", f"--callgrind-out-file={self.out}"
+        ]
         self.server = Server(program, desk, under=tool)
 
     def control(self, *words):
         pid = str(self.server.process.pid)
-        ran = subprocess.run(["callgrind_control", *words, pid], capture_output=True, text=True, timeout=300, check=False)
+        ran = subprocess.run(
+            ["callgrind_control", *words, pid], capture_output=True, text=True, timeout=300,
+            check=False
+        )
         if ran.returncode:
             fail(f"callgrind_control {words}: {ran.stdout} {ran.stderr}")
 
@@ -44,7 +49,10 @@ class Counting:
         totals = []
         for it in glob.glob(f"{self.out}*"):
             with open(it, encoding="utf-8", errors="replace") as lines:
-                totals += [int(found[1]) for found in re.finditer(r"^(?:summary|totals): (\d+)", lines.read(), re.M)]
+                totals += [
+                    int(found[1])
+                    for found in re.finditer(r"^(?:summary|totals): (\d+)", lines.read(), re.M)
+                ]
         if not totals:
             fail("callgrind wrote no totals")
         return max(totals) / len(steps)

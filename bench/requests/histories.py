@@ -38,7 +38,10 @@ class History:
         self.requests += 1
         first = submits("ann", self.key(), PLAIN, "a loader", self.requests)
         number = self.requests
-        return [first, reviews("rita", self.key(), number, "yes", "open"), reviews("raul", self.key(), number, "yes", "approved")]
+        return [
+            first, reviews("rita", self.key(), number, "yes", "open"),
+            reviews("raul", self.key(), number, "yes", "approved")
+        ]
 
     def listed(self):
         return [lists("olga", self.key(), digest_of("listed", self.number))]
