@@ -51,7 +51,8 @@ place 644 "$room/deskctl.1.gz" usr/share/man/man1/deskctl.1.gz
 place 644 "$room/deskctl.bash" usr/share/bash-completion/completions/deskctl
 place 644 "$room/_deskctl" usr/share/zsh/vendor-completions/_deskctl
 place 644 "$room/deskctl.fish" usr/share/fish/vendor_completions.d/deskctl.fish
-place 644 "$root/client/README.md" "usr/share/doc/$name/README.md"
+sed -f "$root/packaging/links.sed" "$root/client/README.md" > "$room/README.md"
+place 644 "$room/README.md" "usr/share/doc/$name/README.md"
 for unit in service timer; do
     unit=deskctl-watch.$unit
     place 644 "$root/client/watch/$unit" "usr/share/doc/$name/examples/$unit"

@@ -76,7 +76,8 @@ for runbook in "$here"/runbooks/*.md; do
     place 644 "$runbook" "usr/share/doc/$name/runbooks/${runbook##*/}"
 done
 for page in AUDIT INTEROPERATION TOOLS WALKTHROUGH; do
-    place 644 "$root/docs/$page.md" "usr/share/doc/$name/$page.md"
+    sed -f "$here/links.sed" "$root/docs/$page.md" > "$room/$page.md"
+    place 644 "$room/$page.md" "usr/share/doc/$name/$page.md"
 done
 # The programs in Python and their package; each finds it by the path of the link.
 (cd "$root/python" && find kovelamiru -name '*.py' ! -path '*/deskctl/*') > "$room/modules"

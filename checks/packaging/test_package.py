@@ -126,6 +126,19 @@ def test_the_page_is_that_of_the_tree(tree: Copy, package: Package) -> None:
     expect(files(packaged), due, "the page")
 
 
+def test_a_link_of_an_installed_page_leads_to_a_file_beside_it(
+    package: Package, client_package: Package
+) -> None:
+    pages = [page for one in (package, client_package)
+             for page in (one.root / "usr/share/doc").rglob("*.md")]
+    links = [(page, link) for page in pages
+             for link in re.findall(r"\]\(([^)#]+)", page.read_text(encoding="utf-8"))]
+    assert links
+    lost = [f"{page.name}: {link}" for page, link in links
+            if ":" not in link and not (page.parent / link).is_file()]
+    expect(lost, [], "links to nothing")
+
+
 def test_each_script_is_one_of_sh(package: Package) -> None:
     scripts = sorted(package.control.glob("p*"))
     assert [one.name for one in scripts] == ["postinst", "postrm", "preinst", "prerm"]
