@@ -37,8 +37,9 @@ WHY = {
     "empty": "it is empty", "nothing": "names nothing that the desk takes",
     "list": "a signature list", "update": "authenticated update", "utf-16": "text in UTF-16",
     "header": "no header that is known", "csv": "a record of the CSV", "json": "the JSON",
-    "level": "isn't sbat,1,STAMP", "hash": "line 2 isn't 64", "certificate": "it is a certificate",
-    "unknown": "no file of revocations", "two": "holds 2 certificates",
+    "level": "isn't sbat,1,STAMP", "levels": "it isn't a level alone", "hash": "line 2 isn't 64",
+    "certificate": "it is a certificate", "unknown": "no file of revocations",
+    "two": "holds 2 certificates",
     "key": "holds a private key",
     "not": "is no certificate|holds 0 certificates|the PEM is spoiled",
 }
@@ -99,6 +100,9 @@ def test_a_file_of_revocations_is_read(case: Case, tmp_path: Path) -> None:
     except Stop as fault:
         assert re.search(WHY[case.get("refused", "empty")], str(fault)) and "refused" in case
         said = "\n".join([str(fault), *fault.more])
+        if "stamps" in case:
+            text = BROUGHT["levels"].format(stamps=case["stamps"])
+            assert text in said and BROUGHT["alone"] in said, said
         brought = [name for name in ("certificate", "mok", "kek")
                    if BROUGHT[name].split("{")[0] in said]
         expect(brought, case.get("says", []), "what is said of what was brought")

@@ -39,6 +39,10 @@ for (const row of imports) test(`“${row.name}” is imported, or refused`, asy
     const found = await revocationsOf(bytes, row.file);
     if (row.refused) {
         isRefused(found, row.refused);
+        if (row.stamps) {
+            const text = brought.levels.replace('{stamps}', row.stamps).slice(1);
+            assert.ok(plain(found.fault).endsWith(`${text}. ${brought.alone}`), found.fault);
+        }
         const said = ['certificate', 'mok', 'kek'].filter((one) => (
             plain(found.fault).toLowerCase().includes(brought[one].split('{')[0].toLowerCase())
         ));

@@ -9,7 +9,7 @@ import { tbsOf } from './der.js';
 import { sha256 } from './digests.js';
 import { archWords, imagesOfHashes, imagesOfJson, imagesOfTable } from './microsoft.js';
 import { firstCertificate } from './pem.js';
-import { greatest, isLevel, levelHeld, levelOf, looksLikeLevel, textOf } from './sbat.js';
+import { greatest, isLevel, levelHeld, levelOf, looksLikeLevel, several, textOf } from './sbat.js';
 import { beginsList, digestIn, hasTime, isVersion, listBytes, listsOf } from './siglists.js';
 import { unwrapped } from './update.js';
 import { wire } from './wire.js';
@@ -45,6 +45,8 @@ export async function revocationsOf(bytes, name = '') {
     if (/^kind,value,generation\r?\n/.test(text)) return whole(csv(plain));
     const held = levelHeld(bytes);
     if (held) return whole(level(held.text, held.notes));
+    const levels = several(plain);
+    if (levels) return refused('levels', levels);
     if (/^sbat,/.test(text)) return whole(level(plain));
     const table = text.includes('\0') ? null : tableOf(plain, text);
     const found = table ?? await lists(bytes);

@@ -8,9 +8,12 @@ import { filled } from './words.js';
 
 /** @typedef {{ stamp: number, names: Map<string, number> }} Level */
 
-/** How a level begins, and the lines of one: its first line may be missing. */
+/** How a level begins, wherever it stands, and the lines of one: its first line may be missing. */
 const LEVEL = /^sbat,0*1,[0-9]{10}(?![0-9])/;
+const STAMPS = /^sbat,0*1,([0-9]{10})(?![0-9])/gm;
 const LEVEL_LINES = /^(?:[!-+\--~]{1,128},[0-9]{1,10}(?:,[^\n]*)?\r?(?:\n|$))+[\s\0]*$/;
+/** So many stamps are told. */
+const MANY = 20;
 /** The sections of an image of revocations: the level that shim applies by itself, the latest. */
 const LEVEL_SECTIONS = ['.sbata', '.sbatl'];
 
@@ -25,6 +28,19 @@ export const isLevel = (text) => LEVEL.test(text);
 // Whether each line is one of a level's.
 /** @param {Uint8Array} bytes */
 export const looksLikeLevel = (bytes) => LEVEL_LINES.test(textOf(bytes));
+
+// What is said of a text with levels and more than one of them, or with words before it; nothing of
+// another text.
+/** @param {Uint8Array} bytes */
+export function several(bytes) {
+    const end = bytes.indexOf(0);
+    const text = textOf(end < 0 ? bytes : bytes.subarray(0, end));
+    const stamps = [...text.matchAll(STAMPS)].map(([, stamp]) => stamp);
+    if (stamps.length === 0 || (stamps.length === 1 && text.startsWith('sbat,'))) return '';
+    const { brought } = wire.words;
+    const told = [...new Set(stamps.slice(0, MANY))].join(', ');
+    return `${sentence(filled(brought.levels, { stamps: told }))} ${brought.alone}`;
+}
 
 // A level's text: its stamp, and the greatest generation of each name.
 /** @param {string} text @returns {Level} */

@@ -14,7 +14,7 @@ from .faults import Unreadable, wrong
 from .files import looks_like, read_file
 from .microsoft import Published, arch_named, published_hashes, published_json, published_table
 from .pem import first_certificate
-from .sbat import LEVEL, LEVEL_LINES, level_held, level_read
+from .sbat import LEVEL, LEVEL_LINES, level_held, level_read, one_level
 from .siglists import KINDS, VERSIONS, SignatureList, guid, is_version, read_lists
 from .update import unwrapped
 from .words import printable
@@ -150,6 +150,7 @@ def text_named(data: bytes, arch: Optional[str]) -> Optional[Revocations]:
         return microsoft_named(published_json(data), arch)
     if b"\0" in data[:4096] and not text.startswith(b"sbat,"):
         return None
+    one_level(text)
     if not text.startswith((b"sbat,", b"kind,")):
         table = published_hashes(data) or published_table(data)
         begin = text[:4096].decode("utf-8", "replace")

@@ -9,9 +9,14 @@ from .faults import Unreadable
 from .pe import texts_in
 from .update import variable
 
-# How a level begins, and a line of one: its first line may be missing.
+# How a level begins, wherever it stands, and a line of one: its first line may be missing.
 LEVEL = re.compile(rb"sbat,0*1,[0-9]{10}(?![0-9])")
+STAMPS = re.compile(rb"(?m)^sbat,0*1,([0-9]{10})(?![0-9])")
 LEVEL_LINES = re.compile(rb"(?:[!-+\--~]{1,128},[0-9]{1,10}(?:,[^\n]*)?\r?(?:\n|\Z))+[\s\0]*\Z")
+
+
+# So many stamps are told.
+MANY = 20
 
 
 def level_read(text: str, whole: bool = False) -> tuple[int, dict[str, int]]:
@@ -29,6 +34,14 @@ def level_read(text: str, whole: bool = False) -> tuple[int, dict[str, int]]:
     if whole and not stamp:
         raise Unreadable("the level is no SBAT text")
     return stamp, found
+
+
+def one_level(text: bytes) -> None:
+    """Refuses a text with levels and more than one of them, or with words before it."""
+    stamps = [stamp.decode() for stamp in STAMPS.findall(text.split(b"\0")[0])]
+    if len(stamps) > 1 or stamps and not text.startswith(b"sbat,"):
+        told = ", ".join(dict.fromkeys(stamps[:MANY]))
+        raise Unreadable(BROUGHT["levels"].format(stamps=told), BROUGHT["alone"])
 
 
 # The sections of an image of revocations: the level that shim applies by itself, and the latest.
