@@ -70,7 +70,9 @@ journal. Two runs of the same command at once follow one another.
 A run ends as soon as the journal has let go of its key. One that is killed between these two
 steps, and is run again though its answer was printed, acts again.
 
-An import of several parts has a key a part; the same command goes on where it was stopped."""
+An import of several parts has a key a part; the same command goes on where it was stopped. A
+proposal's reason has an entry of its own: once the proposal is answered, the same command, or
+`deskctl explain`, sends the reason alone."""
 QUESTIONS = """\
 Nothing takes a revocation back, and an entry that names nothing stays in dbx for good. So deskctl
 asks before it sends

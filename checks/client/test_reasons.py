@@ -8,7 +8,7 @@ from pathlib import Path
 import pytest
 
 from checks.client.test_sentences import WORDS, line
-from checks.support.between import NO_ANSWER, Ask, Between, Rule, instead, shown, unsent
+from checks.support.between import NO_ANSWER, Ask, Between, Rule, answer, instead, shown, unsent
 from checks.support.client_day import TODAY
 from checks.support.deskctl import NO_TERMINAL, Office
 from checks.support.images import digest
@@ -96,13 +96,47 @@ def test_a_reason_that_was_lost_goes_once(
     said = olga.ends(3, f"{REVOKE} {WHY} --retries 0", "Proposal 1 is made",
                      f"deskctl explain 1 {shlex.quote(BECAUSE)}")
     assert "proposal 1 proposed" in said and "explained" not in said
-    expect(len(olga.pending()), 2, "entries of the journal")
+    waits = olga.does("pending")
+    assert f"explain 1 {BECAUSE}" in waits and "revoke" not in waits, waits
+    expect(len(olga.pending()), 1, "entries of the journal")
     olga.does(again, "proposal 1 explained", err=["taking up"])
     expect((explains(office), len(office.calls())), ([f"explain 1 {BECAUSE}"], 2), "the commands")
+    expect(olga.pending(), [], "entries of the journal")
+
+
+@pytest.mark.parametrize("again", [f"{REVOKE} {WHY}", f"explain 1 '{BECAUSE}'"],
+                         ids=["the same command", "explain"])
+def test_a_reason_whose_proposal_cant_be_looked_at_waits_by_itself(
+    office: Office, between: Between, again: str
+) -> None:
+    """The proposal is answered, and what the reason is about isn't: the journal has the reason
+    alone, and it goes out about what is looked at then."""
+    olga = office["olga"].at(between.url)
+    between.shows["/proposals/1"] = answer(503, b"<html>busy</html>", "text/html")
+    olga.ends(3, f"{REVOKE} {WHY} --retries 0", "Proposal 1 is made", out=["proposal 1 proposed"])
+    waits = olga.does("pending")
+    assert f"explain 1 {BECAUSE}" in waits and "revoke" not in waits, waits
+    between.shows.clear()
+    between.seen.clear()
+    olga.does(again, "proposal 1 explained")
+    [head] = [one for one in between.seen if b"/explain " in one]
+    assert b"if-match: " in head.lower(), head
+    expect((explains(office), len(office.calls())), ([f"explain 1 {BECAUSE}"], 2), "the commands")
+    expect(olga.pending(), [], "entries of the journal")
+
+
+def test_a_reason_that_was_lost_leaves_its_command_free(office: Office, between: Between) -> None:
+    """With --new-key the same command is another proposal; what has no answer stays."""
+    olga = office["olga"].at(between.url)
+    between.loses = [lambda request, ask: ask(request), NO_ANSWER]
+    olga.ends(3, f"{REVOKE} {WHY} --retries 0", "Proposal 1 is made")
+    olga.does(f"{REVOKE} {WHY} --yes --new-key", "proposal 2 proposed", "proposal 2 explained")
+    expect(len(olga.pending()), 1, "entries of the journal")
 
 
 def test_killed_behind_the_reason_it_goes_once(office: Office, between: Between) -> None:
-    """The journal still has the proposal, and nothing of the reason."""
+    """Killed once the reason was answered, and before the journal let go of the proposal: it still
+    has that, and nothing of the reason."""
     olga = office["olga"].at(between.url)
     held: list[tuple[Path, bytes]] = []
 
@@ -111,7 +145,7 @@ def test_killed_behind_the_reason_it_goes_once(office: Office, between: Between)
                     if b"explain" not in path.read_bytes())
         return ask(request)
 
-    between.loses = [lambda request, ask: ask(request), rule]
+    between.loses = [rule]
     olga.does(f"{REVOKE} {WHY}", "proposal 1 explained")
     [(path, data)] = held
     path.write_bytes(data)

@@ -28,17 +28,21 @@ def new_key() -> str:
 class Entry:
     """The keys of one command in the journal, locked while a run has them. They go out only after
     they are on the disk, with the tags of what its calls are about, if they are about something:
-    each try names what was looked at before the first."""
+    each try names what was looked at before the first. `behind` says of which command's replies it
+    comes, if it does."""
     def __init__(self, path: str, note: Note):
         self.path = path
         self.file = self.locked(note)
         self.keys: list[str] = []
         self.tags: list[str] = []
         self.since = ""
+        self.behind: dict[str, Any] = {}
+        self.is_gone = False
         try:
             found = json.loads(os.pread(self.file, 1 << 20, 0))
             self.keys, self.since = [str(key) for key in found["keys"]], str(found["since"])
             self.tags = [str(tag) for tag in found["tags"]]
+            self.behind = dict(found.get("behind", {}))
         except (ValueError, KeyError, TypeError):
             # New, or cut before any key went out.
             pass
@@ -63,9 +67,15 @@ class Entry:
     def write(self, what: str, where: str, tags: list[str], key: str = "") -> None:
         """A new key, or this one, and a tag for each call, on the disk before any of them goes
         out."""
-        self.keys, self.tags = [key or new_key() for _ in tags], tags
+        self.hold(what, where, [key or new_key() for _ in tags], tags)
+
+    def hold(self, what: str, where: str, keys: list[str], tags: list[str]) -> None:
+        """Keys, on the disk; without tags what they are about hasn't been looked at."""
+        self.keys, self.tags = keys, tags
         self.since = now().strftime("%Y-%m-%dT%H:%M:%SZ")
+        more = {"behind": self.behind} if self.behind else {}
         text = json.dumps({
+            **more,
             "desk": where,
             "keys": self.keys,
             "since": self.since,
@@ -80,12 +90,14 @@ class Entry:
         os.close(folder)
 
     def done(self) -> None:
-        os.unlink(self.path)
+        if not self.is_gone:
+            os.unlink(self.path)
+        self.is_gone = True
 
     def over(self, status: int = DONE) -> NoReturn:
         """Ends the run: its answers were shown. Killed between the two lines, and run again, it
         acts again."""
-        os.unlink(self.path)
+        self.done()
         os._exit(status)
 
     def close(self) -> None:
@@ -108,6 +120,14 @@ class Journal:
         except OSError as error:
             wrong(f"no journal can be kept in {self.folder}: {reason(error)}",
                   "XDG_STATE_HOME names another folder for it.")
+
+    def behind(self, identity: Any) -> list[dict[str, Any]]:
+        """What came of this command's replies, and has no answer; nothing while it has none
+        itself."""
+        found, own = self.pending(), os.path.basename(self.path(identity))
+        if any(one["file"] == own for one in found):
+            return []
+        return [one for one in found if one.get("behind", {}).get("of") == own]
 
     def pending(self) -> list[dict[str, Any]]:
         found = []

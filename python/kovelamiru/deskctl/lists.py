@@ -23,7 +23,7 @@ from ..standing import level_of, standing_of
 from ..unlisting import losing
 from ..words import HEX, SOME, counted, desk_json, printable
 from .images import facts_of, facts_read_by
-from .reasons import asked_reason, explaining, reason_of
+from .reasons import asked_reason, explaining, reason_of, sends_the_rest
 from .run import Replies, Run, act
 
 
@@ -153,6 +153,7 @@ def proposed(run: Run, calls: Sequence[Call], asks: Callable[[bool], None], caus
                 "Nothing is in force yet. Another officer looks at it and confirms it: deskctl"
                 f" confirm {numbers[0]}")
 
+    sends_the_rest(run, calls, show)
     act(run, calls, show, both, causes, explaining(run, lambda: reason or ""))
 
 

@@ -2,8 +2,9 @@
 from __future__ import annotations
 
 import hashlib
+import os
 import shlex
-from typing import Any, Callable, Optional
+from typing import Any, Callable, Optional, Sequence
 
 from ..answers import proposal_in, said_number
 from ..described import LIMITS
@@ -12,7 +13,7 @@ from ..http import Call
 from ..journal import Entry
 from ..words import desk_json
 from .requests import ascii_text
-from .run import OTHER_DESK, Asks, Replies, Run, Then, act, follow
+from .run import OTHER_DESK, Asks, Replies, Run, Then, act, follow, held, identity_of, told
 
 
 def reason_of(text: str) -> str:
@@ -71,33 +72,61 @@ def explain(run: Run) -> None:
 
 
 def explaining(run: Run, reason: Callable[[], str]) -> Then:
-    """What sends the reason, if there is one, of each proposal that was made. A refusal is told:
-    the proposals stand all the same."""
+    """What sends the reason, if there is one, of each proposal that was made. The proposals' own
+    entry goes as soon as each reason has one."""
     def then(entry: Entry, replies: Replies) -> int:
-        text, status = reason(), DONE
-        for key, reply in zip(entry.keys, replies if text else []):
-            number = said_number(reply, "proposal")
-            try:
-                found = explained_once(run, key, number, text)
-            except Stop as stop:
-                stop.more.append(f"Proposal {number} is made. Its reason alone is sent by:"
-                                 f" deskctl explain {number} {shlex.quote(text)}")
-                if stop.status != REFUSED:
-                    raise
-                run.terminal.stop(str(stop), stop.more)
-                status = REFUSED
-                continue
-            show_explained(run, found, number)
-        return status
+        text = reason()
+        behind = {"of": os.path.basename(entry.path), "replies": replies}
+        entries = [
+            held(run, explanation(number_in(reply), text), own_key(key, text), behind)
+            for key, reply in zip(entry.keys, replies if text else [])]
+        run.terminal.flush()
+        entry.done()
+        return max((explained_once(run, number_in(reply), text, own)
+                    for reply, own in zip(replies, entries)), default=DONE)
 
     return then
 
 
-def explained_once(run: Run, key: str, number: int, text: str) -> dict[str, Any]:
-    """The desk's reply, whose key is that of the proposal and of the text: a repeat of the whole
-    explains once, too."""
-    own = f"{key}-{hashlib.sha256(text.encode()).hexdigest()[:8]}"
-    return follow(run, explanation(number, text), own, explain_asks(run, number), causes_of(number))
+def number_in(reply: dict[str, Any]) -> int:
+    return said_number(reply, "proposal")
+
+
+def own_key(key: str, text: str) -> str:
+    """The key of a proposal and of the text: a repeat of the whole explains once, too."""
+    return f"{key}-{hashlib.sha256(text.encode()).hexdigest()[:8]}"
+
+
+def explained_once(run: Run, number: int, text: str, entry: Entry) -> int:
+    """Sends a reason. A refusal is told: the proposal stands all the same."""
+    try:
+        found = follow(run, explanation(number, text), entry, explain_asks(run, number),
+                       causes_of(number))
+    except Stop as stop:
+        stop.more.append(f"Proposal {number} is made. Its reason alone is sent by:"
+                         f" deskctl explain {number} {shlex.quote(text)}")
+        if stop.status != REFUSED:
+            raise
+        run.terminal.stop(str(stop), stop.more)
+        return REFUSED
+    show_explained(run, found, number)
+    return DONE
+
+
+def sends_the_rest(run: Run, calls: Sequence[Call], show: Callable[[Replies], None]) -> None:
+    """Where the same command made its proposals before, and a reason has no answer, that alone is
+    sent, and the run ends."""
+    left = [] if run.words.new_key else run.journal.behind(identity_of(run, calls))
+    if not left:
+        return
+    told(run, left[0]["behind"]["replies"], show)
+    status = DONE
+    for one in left:
+        number, text = one["what"].split(" ", 2)[1:]
+        entry = held(run, explanation(int(number), text), one["keys"][0], one["behind"])
+        status = max(status, explained_once(run, int(number), text, entry))
+    run.terminal.flush()
+    os._exit(status)
 
 
 def show_explained(run: Run, reply: dict[str, Any], number: int) -> None:

@@ -55,14 +55,18 @@ def act(run: Run, calls: Sequence[Call], show: Callable[[Replies], None],
     looked at before the first. The first refusal ends it."""
     def exchange(entry: Entry, taken: bool) -> int:
         replies = exchange_all(run, calls, entry, taken, causes or {})
-        if run.words.json:
-            for reply in replies:
-                run.print_json(reply)
-        else:
-            show(replies)
+        told(run, replies, show)
         return then(entry, replies) if then else DONE
 
     made(run, calls, asks, exchange)
+
+
+def told(run: Run, replies: Replies, show: Callable[[Replies], None]) -> None:
+    if run.words.json:
+        for reply in replies:
+            run.print_json(reply)
+    else:
+        show(replies)
 
 
 @dataclass(frozen=True)
@@ -100,25 +104,34 @@ def made(run: Run, calls: Sequence[Call], asks: Optional[Asks],
         entry.close()
 
 
-def follow(run: Run, call: Call, key: str, asks: Asks, causes: Causes) -> dict[str, Any]:
-    """The reply to a call that comes of another's reply, and has this key."""
+def held(run: Run, call: Call, key: str, behind: dict[str, Any]) -> Entry:
+    """The entry of a call that comes of another's reply: this key is on the disk, if none was."""
     entry = run.journal.entry(identity_of(run, [call]), run.terminal.note)
+    if not entry.keys or run.words.new_key:
+        entry.behind = behind
+        entry.hold(call.what, str(run.desk.where), [key], [])
+    return entry
+
+
+def follow(run: Run, call: Call, entry: Entry, asks: Asks, causes: Causes) -> dict[str, Any]:
+    """The reply to such a call."""
     try:
-        [reply] = exchange_all(run, [call], entry, keyed(run, [call], asks, entry, key), causes)
+        [reply] = exchange_all(run, [call], entry, keyed(run, [call], asks, entry), causes)
         entry.done()
         return reply
     finally:
         entry.close()
 
 
-def keyed(run: Run, calls: Sequence[Call], asks: Optional[Asks], entry: Entry,
-          key: str = "") -> bool:
-    """Whether the keys of the calls are taken up from a run without an answer. If not, new ones, or
-    this one, are on the disk, behind the questions."""
-    taken = len(entry.keys) == len(calls) and not run.words.new_key
+def keyed(run: Run, calls: Sequence[Call], asks: Optional[Asks], entry: Entry) -> bool:
+    """Whether the keys of the calls are taken up from a run without an answer. If not, they are on
+    the disk, behind the questions: new ones, or the one that was held."""
+    is_held = len(entry.keys) == len(calls) and not (run.words.new_key and entry.tags)
+    taken = is_held and bool(entry.tags)
     about = begin(run, entry, taken, asks)
     if not taken:
         tags = [about] * len(calls) if isinstance(about, str) else list(about)
+        key = entry.keys[0] if is_held else ""
         entry.write(calls[0].what, str(run.desk.where), tags, key)
     return taken
 
