@@ -2,17 +2,23 @@
 from __future__ import annotations
 
 import urllib.request
+from pathlib import Path
 from typing import Callable
 
 import pytest
 
 from checks.conftest import NewDesk
+from checks.support.archive import twins_in
 from checks.support.browser import Browser
+from checks.support.images import PLAIN, SIGNED, TABLE, changed, with_table
 from checks.support.messages import got, refused, request, text, token
 from checks.support.nginx import Nginx
 from checks.support.program import Program
+from checks.support.says import expect
 from checks.support.server import Server
+from checks.support.tools import ran
 
+CONTROL = b"Package: %s\nVersion: 1\nArchitecture: all\nMaintainer: a <a@b>\nDescription: c\n"
 LEVEL = text("sbat,1,2021030218\n")
 
 
@@ -44,3 +50,29 @@ def test_the_browser_opens_the_page_behind_nginx(
     browser.base = nginx(server.port).base
     browser.sign_in(token("olga"))
     assert browser.complaints() == []
+
+
+@pytest.mark.needs("dpkg-deb")
+def test_twins_are_found_in_packages(room: Path) -> None:
+    """As checks/replay.py --archive takes them: by suite, machine and name, a kernel's too; none of
+    an image without its twin, or of a file that is no image."""
+    arm = changed(PLAIN, (68, "64aa"))
+    files = {
+        "one": {"a/shimx64.efi": PLAIN, "a/shimaa64.efi": arm, "a/mmx64.efi": PLAIN,
+                "a/text.efi": b"text"},
+        "one-signed": {"b/shimx64.efi.signed": SIGNED,
+                       "b/shimaa64.efi.signed": with_table(arm, TABLE)},
+        "linux-unsigned": {"boot/vmlinuz-6.12": PLAIN}, "linux": {"boot/vmlinuz-6.12": SIGNED},
+    }
+    for package, contents in files.items():
+        tree = room / package
+        for name, data in {**contents, "DEBIAN/control": CONTROL % package.encode()}.items():
+            (tree / name).parent.mkdir(parents=True, exist_ok=True)
+            (tree / name).write_bytes(data)
+        (room / "packages/forky").mkdir(parents=True, exist_ok=True)
+        ran("dpkg-deb", "--root-owner-group", "-b", tree, room / f"packages/forky/{package}.deb")
+    found = twins_in(room / "packages")
+    expect(dict(found.counts), {"forky amd64": 5, "forky arm64": 2}, "images")
+    expect({one.title for one in found.twins}, {
+        "forky amd64 shimx64.efi", "forky arm64 shimaa64.efi", "forky amd64 vmlinuz-6.12"}, "twins")
+    expect({one.place() for one in found.twins}, {"forky amd64", "forky arm64"}, "their places")
