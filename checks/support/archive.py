@@ -18,10 +18,11 @@ MIRROR = "http://deb.debian.org/debian"
 MACHINES = {0x8664: "amd64", 0xAA64: "arm64", 0x14C: "i386"}
 SUITES = {"bullseye": ["amd64"], "bookworm": ["amd64", "arm64", "i386"],
           "trixie": ["amd64", "arm64"]}
-# Of a suite and an architecture; ia32 is GRUB's word for i386.
+# Of a suite and an architecture; ia32 is GRUB's word for i386. Its unsigned images are in -bin, and
+# from Debian 13 on in -unsigned.
 PACKAGES = (
     "shim-unsigned", "shim-signed", "shim-helpers-{arch}-signed", "grub-efi-{grub}-bin",
-    "grub-efi-{grub}-signed", "fwupd-unsigned", "fwupd-{arch}-signed",
+    "grub-efi-{grub}-unsigned", "grub-efi-{grub}-signed", "fwupd-unsigned", "fwupd-{arch}-signed",
 )
 # The packages that depend on the newest kernel. The others are four times as large.
 KERNELS = {"amd64": "linux-image-cloud-amd64", "arm64": "linux-image-cloud-arm64",
