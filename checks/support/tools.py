@@ -6,12 +6,14 @@ import os
 import shutil
 import signal
 import subprocess
+import tempfile
 from pathlib import Path
 
 from checks.support.says import fail
 
 ROOT = Path(__file__).resolve().parents[2]
 EXAMPLES = ROOT / "examples"
+SYSTEMD = "/usr/lib/systemd/systemd"
 
 
 def needs(*tools: str) -> None:
@@ -21,11 +23,31 @@ def needs(*tools: str) -> None:
         fail(f"this check needs {', '.join(lacking)}")
 
 
+# A cgroup and files of its own can be made.
+NAMESPACES = """
+mkdir "$1/cgroup" "$1/upper" "$1/work" "$1/root"
+mount -t cgroup2 cgroup2 "$1/cgroup" && mkdir "$1/cgroup/$2" && rmdir "$1/cgroup/$2" &&
+    mount -t tmpfs tmpfs "$1/upper" && mkdir "$1/upper/upper" "$1/upper/work" &&
+    mount -t overlay -o "lowerdir=/,upperdir=$1/upper/upper,workdir=$1/upper/work" overlay "$1/root"
+"""
+
+
+def succeeds(*words: str) -> bool:
+    return subprocess.run(words, capture_output=True, check=False).returncode == 0
+
+
 def is_there(thing: str) -> bool:
-    """Whether a tool is installed, or this is `root`, or may have a `network` of its own."""
+    """Whether a tool is installed, or systemd, or this is `root`, or may have a `network` of its
+    own, or `namespaces` for a machine of its own (booted.py)."""
     if thing == "network":
-        done = subprocess.run(["unshare", "-n", "true"], capture_output=True, check=False)
-        return done.returncode == 0
+        return succeeds("unshare", "-n", "true")
+    if thing == "namespaces":
+        with tempfile.TemporaryDirectory() as room:
+            flags = ("--mount", "--pid", "--net", "--uts", "--ipc", "--cgroup", "--fork")
+            return succeeds("unshare", *flags, "sh", "-c", NAMESPACES, "sh", room,
+                            f"desk-checks-{os.getpid()}")
+    if thing == "systemd":
+        return os.access(SYSTEMD, os.X_OK)
     return os.getuid() == 0 if thing == "root" else shutil.which(thing) is not None
 
 
