@@ -9,8 +9,9 @@ import pytest
 
 from checks.packaging.conftest import NAME, Package
 from checks.packaging.machines import MARK, READS, STATE, Machine
-from checks.support.images import sha256
+from checks.support.images import OWNER, sha256
 from checks.support.steps import Step, named, proposes
+from checks.support.waits import until
 
 pytestmark = [
     pytest.mark.long(40),
@@ -115,3 +116,26 @@ def test_a_desk_that_is_in_use_is_tried_until_it_is_free(serving: Machine) -> No
     serving.becomes("active")
     serving.answers(READS)
     assert serving.told(NAME, "ExecMainStatus")[0] == "0"
+
+
+@pytest.mark.if_there("nft", "runuser")
+def test_the_firewalls_unit_lets_root_and_the_proxy_connect(serving: Machine) -> None:
+    """As *Who may connect* of packaging/README.md has it, also after a restart of the unit. At both
+    ports: the second one is that of nginx, by which it counts commands."""
+    serving.run("cp", f"/usr/share/doc/{NAME}/examples/desk.nft", f"/etc/{NAME}.nft")
+    serving.writes("/etc/nftables.conf", f'flush ruleset\ninclude "/etc/{NAME}.nft"\n')
+    counts = ("desk", "serve", f"{STATE}/other.db", "881", "1000")
+    serving.run("desk", "init", f"{STATE}/other.db", OWNER)
+    serving.run("systemd-run", "--unit=counts", *counts)
+    connect = "import socket, sys; socket.create_connection(('127.0.0.1', int(sys.argv[1])), 5)"
+    words = ("--", "/usr/bin/python3", "-c", connect)
+    for _ in range(2):
+        serving.run("systemctl", "enable", "nftables")
+        serving.run("systemctl", "reload-or-restart", "nftables")
+        for port in ("880", "881"):
+            until(30, "it serves", lambda: serving.listens(port))
+            for user in ("root", "www-data"):
+                serving.run("runuser", "-u", user, *words, port)
+            for user in ("nobody", NAME):
+                said = serving.run("runuser", "-u", user, *words, port, status=1)
+                assert "ConnectionRefusedError" in said

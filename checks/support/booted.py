@@ -48,7 +48,7 @@ ln -s /proc/self/fd dev/fd
 for one in null zero full random urandom tty; do cp -a "/dev/$one" dev; done
 mount -t tmpfs -o mode=0755 tmpfs run
 mount -t tmpfs -o mode=1777 tmpfs tmp
-rm -rf var/log/journal
+rm -rf var/log/journal usr/sbin/policy-rc.d
 : > etc/fstab
 tr -d - < /proc/sys/kernel/random/uuid > etc/machine-id
 echo "$2" > etc/hostname
