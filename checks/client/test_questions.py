@@ -15,8 +15,8 @@ from kovelamiru.answers import Request
 from kovelamiru.certificates import Certificate, certificate_in
 from kovelamiru.pkcs7 import signatures_of
 from kovelamiru.questions import (
-    QUESTIONS, carried_question, issued_question, plain_question, twice_question, unknown_words,
-    unlist_question, yes_question
+    QUESTIONS, carried_question, issued_question, plain_question, several_question,
+    twice_question, unknown_words, unlist_question, yes_question
 )
 from kovelamiru.standing import Standing
 from kovelamiru.unlisting import losing
@@ -40,7 +40,7 @@ def request_of(case: dict[str, Any]) -> Request:
 @pytest.mark.parametrize("case", CASES["submits"], ids=[one["name"] for one in CASES["submits"]])
 def test_a_file_that_was_submitted_before_is_asked_about(case: dict[str, Any]) -> None:
     own = [replace(request_of({}), **one) for one in CASES["own"]]
-    assert twice_question(own, case["file"]) == case.get("asks")
+    assert twice_question(own, case["file"], case.get("digests", [])) == case.get("asks")
 
 
 @pytest.mark.parametrize("case", CASES["yes"], ids=[one["name"] for one in CASES["yes"]])
@@ -50,6 +50,14 @@ def test_a_yes_asks_about_what_is_odd_and_what_stays(case: dict[str, Any]) -> No
     for name, line in found.items():
         due = QUESTIONS["yes"][name].replace("{why}", case.get("why", ""))
         assert line == due.replace("{number}", "7")
+
+
+@pytest.mark.parametrize("case", CASES["several"], ids=[one["name"] for one in CASES["several"]])
+def test_one_vote_on_several_requests_asks_about_each(case: dict[str, Any]) -> None:
+    requests = [replace(request_of(has), number=number) for number, has in case["requests"]]
+    each = [(one.number, list(yes_question(one, NOW).values()) if case["vote"] == "yes"
+             else plain_question("no", one.number)) for one in requests]
+    assert several_question(case["vote"], each) == (case["lines"], case["title"])
 
 
 @pytest.mark.parametrize("name", ["no", "withdraw", "drop"])

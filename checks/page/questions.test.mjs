@@ -5,8 +5,8 @@ import { test } from 'node:test';
 
 import { json, rowBytes } from './cases.mjs';
 import {
-    carriedWords, issuedWords, plainQuestion, returnQuestion, twiceQuestion, unknownWords,
-    unlistQuestion, yesQuestion,
+    carriedWords, issuedWords, plainQuestion, returnQuestion, severalQuestion, twiceQuestion,
+    unknownWords, unlistQuestion, yesQuestion,
 } from '../../page/desk/questions.js';
 import { issuedDoubts, itemDoubts, knownOf } from '../../page/desk/doubts.js';
 import { losingIn } from '../../page/desk/unlisting.js';
@@ -17,7 +17,7 @@ import { signaturesOf } from '../../page/formats/pkcs7.js';
 import { wire } from '../../page/formats/wire.js';
 
 const {
-    level, revoked, own, submits, yes, returns, issued, unknown,
+    level, revoked, own, submits, several, yes, returns, issued, unknown,
 } = json('cases/questions');
 const now = {
     level: { names: new Map(Object.entries(level)) },
@@ -28,9 +28,28 @@ const now = {
 };
 const plain = { number: 7, digest: '', signing: '', carried: [], components: [], votes: [] };
 
-for (const { name, file, asks = '' } of submits) {
-    test(`${name} is submitted`, () => assert.equal(twiceQuestion(own, file)?.words ?? '', asks));
+for (const { name, file, digests, asks = '' } of submits) {
+    test(`${name} is submitted`, () => (
+        assert.equal(twiceQuestion(own, file, digests)?.words ?? '', asks)
+    ));
 }
+
+for (const { name, vote, requests, title, lines } of several) {
+    test(`${name}, on several requests`, () => {
+        const given = requests.map(([number, { votes = [], ...facts }]) => (
+            { ...plain, ...facts, number, votes: votes.map((one) => ({ vote: one })) }
+        ));
+        const button = `Vote ${vote}`;
+        assert.deepEqual(severalQuestion(given, vote, now), { title, lines, button });
+    });
+}
+
+test('one request that is left of several is asked about as it is alone', () => {
+    assert.deepEqual(severalQuestion([plain], 'yes', now), {
+        title: 'Vote yes on request 7?', lines: [], button: 'Vote yes',
+    });
+    assert.deepEqual(severalQuestion([plain], 'no', now), plainQuestion('no', 7));
+});
 
 for (const { name, asks, why = '', another = false, votes = [], ...facts } of yes) {
     test(`${name}: a yes asks about ${asks.join(', ') || 'nothing'}`, () => {

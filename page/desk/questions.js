@@ -25,29 +25,34 @@ export function plainQuestion(name, number) {
 }
 
 /**
- * The request by which the same person submitted a file before, which is open or approved, or was
- * signed; and what is said of it.
+ * The request by which the same person submitted a file before, or its image, which is open or
+ * approved, or was signed; and what is said of it.
  * @param {import('./types.js').Request[]} own
  * @param {string} file
+ * @param {string[]} [digests] of its image
  * @returns {{ number: number, words: string } | null}
  */
-export function twiceQuestion(own, file) {
+export function twiceQuestion(own, file, digests = []) {
     const states = ['open', 'approved', 'signed'];
-    const last = own.filter((one) => one.file === file && states.includes(one.state)).pop();
-    if (!last) return null;
-    const { number, state } = last;
-    return { number, words: filled(wire.questions.submit.twice, { number, state }) };
+    const lasting = own.filter(({ state }) => states.includes(state)).reverse();
+    const twice = lasting.find((one) => one.file === file);
+    const found = twice ?? lasting.find(({ digest, signing }) => (
+        digests.includes(digest) || digests.includes(signing)
+    ));
+    if (!found) return null;
+    const { number, state } = found;
+    const words = wire.questions.submit[twice ? 'twice' : 'image'];
+    return { number, words: filled(words, { number, state }) };
 }
 
 /**
- * What is asked before a yes: an image that is barred, another one that was looked at, and the
- * approval.
+ * What is said before a yes: that the image is barred, that another one was looked at, and that the
+ * yes approves it.
  * @param {import('./types.js').Request} request
  * @param {import('./standing.js').Standing} now
- * @param {boolean} another whether the file that was looked at last is another image
- * @returns {Question | null} null where nothing is asked
+ * @param {boolean} [another] whether the file that was looked at last is another image
  */
-export function yesQuestion(request, now, another) {
+function yesLines(request, now, another = false) {
     const barred = barredBy(now, request);
     const asks = {
         barred: barred !== null,
@@ -55,9 +60,42 @@ export function yesQuestion(request, now, another) {
         second: request.votes.some(({ vote }) => vote === 'yes'),
     };
     const parts = { number: request.number, why: barred ? ruleWords(barred) : '' };
-    const lines = Object.entries(asks).filter(([, is]) => is)
+    return Object.entries(asks).filter(([, is]) => is)
         .map(([name]) => filled(wire.questions.yes[name], parts));
+}
+
+/**
+ * What is asked before a yes.
+ * @param {import('./types.js').Request} request
+ * @param {import('./standing.js').Standing} now
+ * @param {boolean} another
+ * @returns {Question | null} null where nothing is asked
+ */
+export function yesQuestion(request, now, another) {
+    const lines = yesLines(request, now, another);
     return lines.length > 0 ? question('yes', request.number, lines) : null;
+}
+
+/**
+ * What is asked before one vote on several requests, or on the one that is left of them.
+ * @param {import('./types.js').Request[]} requests
+ * @param {'yes' | 'no'} vote
+ * @param {import('./standing.js').Standing} now
+ * @returns {Question}
+ */
+export function severalQuestion(requests, vote, now) {
+    const linesOf = (/** @type {import('./types.js').Request} */ one) => (
+        vote === 'no' ? plainQuestion('no', one.number).lines : yesLines(one, now)
+    );
+    if (requests.length === 1) return question(vote, requests[0].number, linesOf(requests[0]));
+    const { title, each, button } = wire.questions.several;
+    return {
+        title: filled(title, { vote, count: counted(requests.length, 'request') }),
+        lines: requests.flatMap((one) => (
+            linesOf(one).map((line) => filled(each, { number: one.number, line }))
+        )),
+        button: filled(button, { vote }),
+    };
 }
 
 /**

@@ -13,6 +13,7 @@ import { Command } from '../desk/journal.js';
 import { listed } from '../desk/lists.js';
 import { twiceQuestion } from '../desk/questions.js';
 import { me } from '../desk/session.js';
+import { authenticode } from '../formats/pe.js';
 import { wire } from '../formats/wire.js';
 import { textFault } from '../formats/words.js';
 
@@ -39,7 +40,7 @@ export function submitView(place) {
         file = chosen;
         fill(twice);
         if (!chosen?.sha256) return;
-        const told = await before(chosen.sha256);
+        const told = await before(chosen);
         if (file === chosen) fill(twice, told);
     });
     const go = submitButton('Submit');
@@ -60,9 +61,9 @@ export function submitView(place) {
     place.append(form, said);
 }
 
-// Says where the caller submitted the same file before.
-/** @param {string} sha256 */
-async function before(sha256) {
+// Says where the caller submitted the same file before, or its image in another one.
+/** @param {Chosen} chosen */
+async function before({ bytes, sha256 }) {
     const answer = await listed('requests');
     if (answer.kind !== 'value') {
         return [p('Whether the same file was submitted before can’t be read:'), refusalBox(answer)];
@@ -70,7 +71,8 @@ async function before(sha256) {
     /** @type {Request[]} */
     const requests = answer.value;
     const own = requests.filter(({ submitter }) => submitter === me.name);
-    const twice = twiceQuestion(own, sha256);
+    const twice = twiceQuestion(own, sha256)
+        ?? twiceQuestion(own, sha256, await authenticode(bytes).catch(() => []));
     if (!twice) return null;
     const { number, words } = twice;
     return box('care', p(words), p(requestLink(number, `Look at request ${number}`)));

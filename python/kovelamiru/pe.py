@@ -58,3 +58,11 @@ def authenticode(data: bytes) -> tuple[str, str]:
     padded = whole.copy()
     padded.update(bytes(0 if has_table else -len(data) % 8))
     return whole.hexdigest(), padded.hexdigest()
+
+
+def digests_in(data: bytes) -> Sequence[str]:
+    """Both of an image; none of what is no image."""
+    try:
+        return authenticode(data)
+    except struct.error:
+        return ()

@@ -27,13 +27,25 @@ def plain_question(name: str, number: int) -> list[str]:
     return [QUESTIONS[name]["plain"].format(number=number)]
 
 
-def twice_question(own: Sequence[Request], file: str) -> Optional[str]:
-    """Before a file that the same person submitted before, as a request that was open or approved,
-    or that was signed."""
-    for one in reversed(own):
-        if one.file == file and one.state in ("open", "approved", "signed"):
-            return QUESTIONS["submit"]["twice"].format(number=one.number, state=one.state)
+def twice_question(own: Sequence[Request], file: str,
+                   digests: Collection[str] = ()) -> Optional[str]:
+    """Before a file that the same person submitted before, or whose image (by its `digests`), as a
+    request that was open or approved, or that was signed."""
+    lasting = [one for one in reversed(own) if one.state in ("open", "approved", "signed")]
+    twice = [("twice", one) for one in lasting if one.file == file]
+    twice += [("image", one) for one in lasting if {one.digest, one.signing}.intersection(digests)]
+    for name, one in twice[:1]:
+        return QUESTIONS["submit"][name].format(number=one.number, state=one.state)
     return None
+
+
+def several_question(vote: str, each: Sequence[tuple[int, Sequence[str]]]) -> tuple[list[str], str]:
+    """Before one vote on several requests: what is asked of each of these numbers, a line each, and
+    the question."""
+    asks = QUESTIONS["several"]
+    lines = [asks["each"].format(number=number, line=line) for number, all_of in each
+             for line in all_of]
+    return lines, asks["title"].format(vote=vote, count=counted(len(each), "request"))
 
 
 def yes_question(one: Request, now: Standing, another: bool = False) -> dict[str, str]:

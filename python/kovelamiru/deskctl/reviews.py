@@ -8,11 +8,11 @@ from ..compare import beside_lines
 from ..described import LIMITS
 from ..faults import Causes, Refused
 from ..http import Call
-from ..questions import plain_question, yes_question
+from ..questions import plain_question, several_question, yes_question
 from ..standing import standing_of
 from ..titles import name_of
 from ..waiting import yes_words
-from ..words import counted, desk_json, printable
+from ..words import desk_json, printable
 from .requests import NEXT, another_file, ascii_text, state_of
 from .run import One, Run, act_each
 
@@ -93,9 +93,8 @@ def review_asks(run: Run, numbers: Sequence[int]) -> list[str]:
     question = "Vote all the same? Type yes:" if forced else "Is that meant? Type yes:"
     if len(found) > 1:
         show_all(run, found)
-        doubts = [f"request {one.number}: {line}" for one, lines in zip(found, each)
-                  for line in lines]
-        question = f"Vote {run.words.vote} on these {counted(len(found), 'request')}? Type yes:"
+        doubts, asked = several_question(run.words.vote, list(zip(numbers, each)))
+        question = f"{asked} Type yes:"
     if forced:
         run.terminal.confirm(doubts, question)
     elif doubts:

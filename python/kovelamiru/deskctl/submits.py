@@ -10,7 +10,7 @@ from ..described import LIMITS
 from ..faults import Causes, wrong
 from ..files import IMAGE_LIMIT, read_file
 from ..http import Call
-from ..pe import has_sbat
+from ..pe import digests_in, has_sbat
 from ..questions import twice_question
 from ..titles import machine_names, titles_of
 from ..words import printable
@@ -54,15 +54,15 @@ def images_of(run: Run) -> list[Image]:
 
 
 def submit_asks(run: Run, images: Sequence[Image]) -> None:
-    """Before a file that the caller has submitted before, where a person can be asked: a script
-    means it."""
+    """Before a file or an image that the caller has submitted before, where a person can be asked:
+    a script means it."""
     if not run.terminal.can_ask:
         return
     me = me_of(run.desk)
     own = [one for one in (shaped(Request, value) for value in run.desk.listed("/requests"))
            if me and one.submitter == me.name]
     asks = [f"{printable(one.path)}: {doubt}" for one in images
-            for doubt in [twice_question(own, one.sum())] if doubt]
+            for doubt in [twice_question(own, one.sum(), digests_in(one.data))] if doubt]
     if asks:
         run.terminal.ask(asks, "Submit it again? Type yes:")
 
