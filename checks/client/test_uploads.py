@@ -6,8 +6,9 @@ import pytest
 
 from checks.support.between import NO_ANSWER, Between
 from checks.support.deskctl import Office
-from checks.support.images import PLAIN, changed, sha256, with_text
+from checks.support.images import PLAIN, changed, sha256, with_table, with_text
 from checks.support.says import expect
+from checks.support.wire import wire
 from kovelamiru.titles import group_of, machine_names, name_of, titles_of
 
 MACHINES = {"amd64": "6486", "arm64": "64aa", "i386": "4c01"}
@@ -39,12 +40,7 @@ def test_a_title_says_the_architecture_and_what_distinguishes_the_file(
     expect(titles_of(title, files), [f"{title} {one}" for one in due], "the titles")
 
 
-@pytest.mark.parametrize("title, group, name", [
-    ("linux 6.12.118-1 arm64 rt", "linux 6.12.118-1", "linux arm64 rt"),
-    ("grub installer 2.12 amd64", "grub installer 2.12", "grub installer amd64"),
-    ("shim v16 x64", "shim v16", "shim x64"), ("shim 16.1-1", None, "shim"),
-    ("7zip", None, "7zip"), ("a loader", None, "a loader"), ("", None, ""),
-])
+@pytest.mark.parametrize("title, group, name", wire("cases/titles")["groups"])
 def test_titles_of_an_upload_begin_alike_and_have_a_name(
     title: str, group: str | None, name: str
 ) -> None:
@@ -106,6 +102,22 @@ def test_a_file_that_was_submitted_before_is_asked_about(built: Office) -> None:
     for number in "124":
         ann.does(f"withdraw {number}")
     assert "submitted before" not in ann.asked(line)[1]
+
+
+def test_an_image_that_was_submitted_in_another_file_is_asked_about(built: Office) -> None:
+    """One that was signed since, or whose signature was taken off; of what is no image nothing is
+    asked."""
+    ann = built["ann"]
+    built.file("signed", with_table(image("amd64"), bytes(16)))
+    built.file("log", b"text")
+    ann.does("submit vmlinuz-amd64 --title first")
+    said = "The same image was submitted before in another file, as request 1 (open)."
+    for name, word in (("signed", said), ("vmlinuz-amd64", "The same file was")):
+        ended, told = ann.asked(f"submit {name} --title again", "no")
+        assert ended == 2 and f"{name}: {word}" in told, told
+    ended, told = ann.asked("submit log --title again")
+    assert ended == 1 and "submitted before" not in told, told
+    expect(titles(built), ["first"], "the titles")
 
 
 def test_an_uploads_rows_stand_below_one_row(built: Office) -> None:
