@@ -21,6 +21,7 @@ import { reportView } from './views/report.js';
 import { requestView } from './views/request.js';
 import { requestsView } from './views/requests.js';
 import { submitView } from './views/submit.js';
+import { uploadView } from './views/upload.js';
 import { verdictView } from './views/verdict.js';
 import { beginWaiting, counts, endWaiting } from './views/waiting.js';
 import { whyView } from './views/why.js';
@@ -33,13 +34,19 @@ const part = (id) => document.getElementById(id);
 /** @type {(one: Shows, all: Shows) => Shows} a view of the one that an address names, or of all */
 const oneOrAll = (one, all) => (place, words) => (isNumber(words[0]) ? one : all)(place, words);
 
+/** @type {Shows} a reviewer's view of the upload of a request, the request, or all */
+const anyRequest = (place, words) => {
+    const isUpload = words[1] === 'upload' && me.reviewer && isNumber(words[0]);
+    return (isUpload ? uploadView : oneOrAll(requestView, requestsView))(place, words);
+};
+
 /** @type {Shows} */
 const anyHistory = (place, words) => (words.length > 0 ? whyView : historyView)(place, words);
 
 /** @type {[name: string, title: string, isFor: () => boolean, shows: Shows][]} in the navigation */
 const VIEWS = [
     ['inbox', 'For you', () => true, inboxView],
-    ['requests', 'Requests', () => true, oneOrAll(requestView, requestsView)],
+    ['requests', 'Requests', () => true, anyRequest],
     ['submit', 'Submit', () => me.submitter, submitView],
     ['proposals', 'Proposals', () => me.officer, oneOrAll(proposalView, proposalsView)],
     ['propose', 'Propose', () => me.officer, proposeView],

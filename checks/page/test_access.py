@@ -8,13 +8,14 @@ from typing import Iterator
 import pytest
 from selenium.webdriver.common.keys import Keys
 
+from checks.page.keyboard import Keyboard
 from checks.page.looked import looked
 from checks.page.plain_day import does_day
 from checks.page.site import Site, unsigned
 from checks.support.browser import Browser
 from checks.support.messages import token
 from checks.support.program import Program, copy_of
-from checks.support.says import expect, fail
+from checks.support.says import expect
 
 # The views of each person that are looked at: requests in each state but rejected, proposals that
 # are confirmed, dropped and doubtful.
@@ -26,13 +27,6 @@ VIEWS = {
         "propose/certificate", "propose/import", "lists", "report", "history",
     ],
 }
-FOCUSED = """
-const one = document.activeElement, style = getComputedStyle(one);
-return {
-    text: one.textContent.trim() || one.labels?.[0]?.textContent || '', tag: one.tagName,
-    outline: `${style.outlineStyle} ${style.outlineWidth}`,
-};
-"""
 
 
 @pytest.fixture(scope="module")
@@ -92,27 +86,6 @@ def test_where_colours_are_forced_the_view_that_is_shown_alone_has_a_line(
     expect([line for _, line in edges], [current for current, _ in edges], "the lines of links")
     assert len(edges) > 5
     browser.width(1300)
-
-
-class Keyboard:
-    """Nothing but keys; each stop has to be seen."""
-
-    def __init__(self, browser: Browser) -> None:
-        self.browser = browser
-
-    def focused(self) -> dict[str, str]:
-        found: dict[str, str] = self.browser.script(FOCUSED)
-        return found
-
-    def tab_to(self, text: str, most: int = 60) -> None:
-        for _ in range(most):
-            self.browser.types(Keys.TAB)
-            at = self.focused()
-            if at["tag"] not in ("BODY", "MAIN") and at["outline"] != "solid 3px":
-                fail(f"the focus isn't seen at {at}")
-            if at["text"].startswith(text):
-                return
-        fail(f"no way by keyboard to “{text}”")
 
 
 def test_a_vote_is_given_by_keyboard_alone(browser: Browser, site: Site) -> None:

@@ -1,7 +1,7 @@
 // Whether a file at hand is the image of a request, what differs, and what the lists say of it
 // today. The facts of both are the desk's; they are compared here.
 
-import { grouped } from '../formats/words.js';
+import { grouped, size } from '../formats/words.js';
 
 /**
  * @typedef {import('./types.js').Component} Component
@@ -77,6 +77,40 @@ export function differences(request, here, whose) {
     for (const one of added) rows.push(['Certificate', 'not carried', named(one, whose.get(one))]);
     return rows.filter(([, one, other]) => one !== other);
 }
+
+/**
+ * A fact of an image, and the same of the image of its name that was signed last; `isOther` where
+ * they differ, and versions as such don't: a size always does.
+ * @typedef {{ what: 'size' | 'component' | 'gap', name: string, now: string, before: string,
+ *   isOther: boolean }} Beside
+ */
+
+/**
+ * The facts of a request's image beside those of the last signed one of its name.
+ * @param {Request} one
+ * @param {Request | null} last
+ * @returns {Beside[]}
+ */
+export function besides(one, last) {
+    const [now, then] = [generations(one.components), generations(last?.components ?? [])];
+    /** @type {(what: Beside['what'], name: string, here: string, there?: string) => Beside} */
+    const row = (what, name, here, there = 'none') => ({
+        what, name, now: here, before: last ? there : '', isOther: last !== null && here !== there,
+    });
+    const components = [...new Set([...then.keys(), ...now.keys()])].map((name) => (
+        row('component', name, now.get(name) ?? 'none', then.get(name))
+    ));
+    const whole = row('size', 'Size', size(one.length), last ? size(last.length) : '');
+    const gap = row('gap', 'Bytes in no section', grouped(one.gap), grouped(last?.gap ?? 0));
+    const hasGap = one.gap > 0 || gap.isOther;
+    return [{ ...whole, isOther: false }, ...components, ...(hasGap ? [gap] : [])];
+}
+
+// Whether an image carries the same certificates as another one.
+/** @param {Request} one @param {Request} other */
+export const sameCarried = (one, other) => (
+    JSON.stringify([...one.carried].sort()) === JSON.stringify([...other.carried].sort())
+);
 
 /** @param {string} hex @param {string | undefined} subject */
 const named = (hex, subject) => (subject ? `${hex} (${subject})` : hex);

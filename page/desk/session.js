@@ -15,12 +15,17 @@ const NOBODY = {
     hasToken: false,
 };
 
-const queue = () => ({ state: '', text: '', from: 0, scroll: 0 });
+const queue = () => ({
+    state: '', text: '', from: 0, scroll: 0, open: /** @type {Set<string>} */ (new Set()),
+});
 
 /** What the person may do, and the name. */
 export const me = {
     ...NOBODY,
-    /** What the queue was last set to: the filter, the first row, and how far it was scrolled. */
+    /**
+     * What the queue was last set to: the filter, the first row, and how far it was scrolled; and
+     * which uploads are open in any list.
+     */
     queue: queue(),
 };
 

@@ -88,6 +88,14 @@ async function readInto(into) {
     return { kind: 'value', value: into };
 }
 
+// What waits, read anew, whatever was kept.
+/** @returns {Promise<import('./types.js').Answer<Waiting>>} */
+export async function waitingNow() {
+    const looked = await look(true);
+    if (looked.kind !== 'value') return looked;
+    return mine.isOld ? ofLists() : get('/waiting');
+}
+
 // What GET /waiting would give, of the lists of an older desk.
 /** @returns {Promise<import('./types.js').Answer<Waiting>>} */
 async function ofLists() {

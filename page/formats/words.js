@@ -68,6 +68,13 @@ export function voteWords(votes, state) {
     return state === 'open' ? `${yes} of 2 yes` : counted(yes, 'yes', 'yes');
 }
 
+// How the votes on a request stand, and whose they are.
+/** @param {import('../desk/types.js').Vote[]} votes @param {string} state */
+export function votesBy(votes, state) {
+    const names = votes.map(({ reviewer }) => reviewer).join(', ');
+    return `${voteWords(votes, state)}${names === '' ? '' : `, by ${names}`}`;
+}
+
 // How long ago a time of `timeOf` was; '' if there is none.
 /** @param {string} time @param {number} [now] */
 export function ageWords(time, now = Date.now()) {

@@ -2,17 +2,18 @@
 // those that are under way.
 
 import { read } from './act.js';
-import { fill, h, heading, p, quiet } from './dom.js';
+import { fill, h, heading, quiet } from './dom.js';
 import { named } from './impact.js';
 import { badge, barredBadge, proposalLink, requestLink } from './marks.js';
 import { shortReason } from './reasons.js';
 import { keepingFocus, paged } from './table.js';
+import { barredOf, uploadsTable } from './uploads.js';
 import { namesOf } from '../desk/proposals.js';
 import { lately, ownProposals, times } from '../desk/proposed.js';
 import { me, withYou } from '../desk/session.js';
 import { barredBy, standing } from '../desk/standing.js';
 import { inbox, listen, look } from '../desk/waiting.js';
-import { ageWords, counted, voteWords } from '../formats/words.js';
+import { ageWords, counted, votesBy } from '../formats/words.js';
 
 /** @typedef {import('./dom.js').Child} Child */
 /** @typedef {import('../desk/types.js').Request} Request */
@@ -122,21 +123,25 @@ function part(title, table, rows, hint) {
 
 /** @param {string} caption @param {string} empty @param {Beside} beside @param {boolean} own */
 function requestTable(caption, empty, beside, own) {
-    return paged({
+    const isBarred = (/** @type {Request} */ request) => (
+        beside.now !== null && barredBy(beside.now, request) !== null
+    );
+    return uploadsTable({
         caption,
         kind: 'wide queue',
         head: ['No', 'Title', own ? 'State' : 'From', 'Votes'],
         empty,
-        row: (/** @type {Request} */ request) => {
+        barred: (files) => {
+            const count = files.filter(isBarred).length;
+            return count > 0 ? barredOf(count) : null;
+        },
+        row: (request) => {
             const { number, title, submitter, state, votes } = request;
-            const isBarred = beside.now !== null && barredBy(beside.now, request) !== null;
-            const names = votes.map(({ reviewer }) => reviewer).join(', ');
-            const by = names === '' ? '' : `, by ${names}`;
             return [
                 ['number', number],
-                ['title', requestLink(number, title), ' ', isBarred ? barredBadge() : null],
+                ['title', requestLink(number, title), ' ', isBarred(request) && barredBadge()],
                 own ? badge(state) : ['from', withYou(submitter)],
-                `${voteWords(votes, state)}${by}`,
+                votesBy(votes, state),
             ];
         },
     });
@@ -160,24 +165,4 @@ function proposalTable(caption, empty, beside) {
             ];
         },
     });
-}
-
-// What waits next for the person who has done with this one, and how many are left; the place fills
-// as it is read.
-/** @param {number} number of a request or a proposal */
-export function nextPart(number) {
-    const place = p();
-    look(true).then(({ kind }) => {
-        const all = inbox();
-        if (kind !== 'value' || !all) return;
-        /** @type {(Request | ProposalRow)[]} */
-        const rows = me.officer ? all.proposals : all.requests;
-        const next = rows.find((row) => row.number > number) ?? rows[0];
-        if (!next) return fill(place, 'Nothing else waits for you.');
-        const link = 'title' in next
-            ? requestLink(next.number, `request ${next.number}, ${next.title}`)
-            : proposalLink(next.number);
-        return fill(place, 'Next: ', link, `; ${counted(rows.length, 'waits', 'wait')} for you.`);
-    });
-    return place;
 }

@@ -6,8 +6,13 @@ import { stateName } from '../formats/words.js';
 /** @param {string} state */
 export const badge = (state) => h('span', { class: `badge ${state}` }, stateName(state));
 
-// Beside a request that goes on, whose image is barred.
-export const barredBadge = () => h('span', { class: 'badge rejected' }, 'Barred today');
+// Beside a request that goes on, whose image is barred; beside an upload, of which some are.
+/** @param {string} [text] */
+export const barredBadge = (text = 'Barred today') => h('span', { class: 'badge rejected' }, text);
+
+// The view in which the files of an upload are reviewed at once; one of its requests names it.
+/** @param {number} number @param {import('./dom.js').Child} text */
+export const uploadLink = (number, text) => link(`#/requests/${Number(number)}/upload`, text);
 
 /** @param {number} number @param {import('./dom.js').Child} [text] */
 export const requestLink = (number, text = `request ${number}`) => (

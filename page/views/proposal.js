@@ -8,9 +8,9 @@ import {
     actSection, asks, box, button, buttons, done, fill, h, heading, link, p, section, strong,
 } from './dom.js';
 import { impactPart } from './impact.js';
-import { nextPart } from './inbox.js';
 import { itemsPart } from './items.js';
 import { badge } from './marks.js';
+import { nextPart } from './next.js';
 import { explainForm, reasonList } from './reasons.js';
 import { closedBy } from './why.js';
 import { get } from '../desk/api.js';

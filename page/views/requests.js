@@ -3,7 +3,8 @@
 import { read } from './act.js';
 import { field, h, heading, quiet } from './dom.js';
 import { badge, barredBadge, requestLink } from './marks.js';
-import { choices, keepingFocus, paged } from './table.js';
+import { choices, keepingFocus } from './table.js';
+import { barredOf, uploadsTable } from './uploads.js';
 import { listed } from '../desk/lists.js';
 import { requestMatches } from '../desk/search.js';
 import { me, withYou } from '../desk/session.js';
@@ -40,18 +41,20 @@ export function requestsView(place) {
     if (withWaiting([]).length > 0) show([]);
 }
 
-// What says that an image is barred today, once it is known; it is asked for at the first request
-// that goes on.
+// What says how many of some requests are barred today, once it is known; it is asked for at the
+// first that goes on.
 function barring() {
     /** @type {ReturnType<typeof standing> | null} */
     let now = null;
-    return (/** @type {Request} */ request) => {
+    return (/** @type {Request[]} */ some, /** @type {(count: number) => Node} */ mark) => {
         const place = h('span', {});
-        if (request.state !== 'open' && request.state !== 'approved') return place;
+        const going = some.filter(({ state }) => state === 'open' || state === 'approved');
+        if (going.length === 0) return place;
         now ??= standing();
         now.then((answer) => {
-            const isBarred = answer.kind === 'value' && barredBy(answer.value, request) !== null;
-            if (isBarred) place.append(' ', barredBadge());
+            if (answer.kind !== 'value') return;
+            const count = going.filter((one) => barredBy(answer.value, one) !== null).length;
+            if (count > 0) place.append(' ', mark(count));
         });
         return place;
     };
@@ -60,15 +63,20 @@ function barring() {
 /** @param {() => string} empty what is said where no row is shown */
 function queueTable(empty) {
     const barred = barring();
-    return paged({
+    return uploadsTable({
         caption: 'Requests, oldest first',
         kind: 'wide queue',
         head: ['No', 'Title', 'From', 'State', 'Votes', 'Size'],
         empty,
         turned: (from) => (me.queue.from = from),
-        row: (/** @type {Request} */ request) => [
+        barred: (files) => barred(files, barredOf),
+        row: (request) => [
             ['number', request.number],
-            ['title', requestLink(request.number, request.title), barred(request)],
+            [
+                'title',
+                requestLink(request.number, request.title),
+                barred([request], () => barredBadge()),
+            ],
             ['from', withYou(request.submitter)],
             badge(request.state),
             ['from', voteWords(request.votes, request.state)],

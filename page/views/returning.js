@@ -4,7 +4,7 @@ import {
     answers, asks, box, buttons, faulty, fill, h, p, quiet, section, status, strong, submitButton,
 } from './dom.js';
 import { fileField, noFile } from './files.js';
-import { nextPart } from './inbox.js';
+import { nextPart } from './next.js';
 import { barPlace, compared, sent } from './sending.js';
 import { get } from '../desk/api.js';
 import { matching } from '../desk/answers.js';

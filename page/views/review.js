@@ -4,7 +4,7 @@ import { act, refusalBox } from './act.js';
 import {
     actSection, answers, asks, box, button, buttons, faulty, field, fill, h, p, section, strong,
 } from './dom.js';
-import { nextPart } from './inbox.js';
+import { nextPart } from './next.js';
 import { matching } from '../desk/answers.js';
 import { Command, jsonCommand } from '../desk/journal.js';
 import { plainQuestion, yesQuestion } from '../desk/questions.js';
