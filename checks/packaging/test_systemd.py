@@ -1,5 +1,5 @@
 """The package under systemd, which is PID 1 of a machine of its own: installed by dpkg, served,
-killed, and refused what its unit refuses."""
+killed, refused what its unit refuses, upgraded and removed."""
 from __future__ import annotations
 
 from pathlib import Path
@@ -8,7 +8,7 @@ from typing import Iterator
 import pytest
 
 from checks.packaging.conftest import NAME, Package
-from checks.packaging.machines import MARK, READS, STATE, Machine
+from checks.packaging.machines import AS_DESK, MARK, READS, STATE, Machine
 from checks.support.images import OWNER, sha256
 from checks.support.steps import Step, named, proposes
 from checks.support.waits import until
@@ -17,6 +17,7 @@ pytestmark = [
     pytest.mark.long(40),
     pytest.mark.if_there("root", "network", "dpkg", "ip", "ss", "nsenter", "systemd", "namespaces"),
 ]
+COPIES = f"/var/backups/{NAME}"
 # With what the kernel is told of the process: its one capability is that for its port.
 LIMITS = {
     "CapEff": "0000000000000400", "CapBnd": "0000000000000400", "NoNewPrivs": "1", "Seccomp": "2",
@@ -116,6 +117,27 @@ def test_a_desk_that_is_in_use_is_tried_until_it_is_free(serving: Machine) -> No
     serving.becomes("active")
     serving.answers(READS)
     assert serving.told(NAME, "ExecMainStatus")[0] == "0"
+
+
+def test_an_upgrade_copies_the_desk_and_it_goes_on_and_a_removal_leaves_it(
+    serving: Machine, package: Package
+) -> None:
+    serving.answers(proposed(1))
+    before = serving.number()
+    said = serving.installs(package.deb)
+    assert f"{COPIES}/" in said
+    serving.answers(proposed(1))
+    assert serving.number() not in (0, before)
+    assert serving.run("ls", COPIES).count("\n") == 0
+    copy = serving.run("sh", "-c", f"echo {COPIES}/*/desk.db")
+    minutes = serving.run(*AS_DESK, "cat", copy, status=None)
+    assert minutes
+    serving.run("dpkg", "--no-triggers", "-r", NAME)
+    serving.run("dpkg", "--no-triggers", "-P", NAME)
+    assert serving.run("systemctl", "is-active", NAME, status=None) == "inactive"
+    assert serving.has(f"{STATE}/desk.db") and not serving.has("/usr/bin/desk")
+    links = serving.run("sh", "-c", "find /etc/systemd -name 'kovelamiru*.service'")
+    assert links == ""
 
 
 @pytest.mark.if_there("nft", "runuser")
