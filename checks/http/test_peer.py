@@ -2,8 +2,12 @@
 start."""
 from __future__ import annotations
 
+import contextlib
+import fcntl
 import os
+import shutil
 import subprocess
+import sys
 from concurrent.futures import ThreadPoolExecutor
 from pathlib import Path
 from typing import Iterator
@@ -13,6 +17,7 @@ import pytest
 from checks.publish.mirror import served
 from checks.support.halves import Half
 from checks.support.tools import ROOT
+from checks.support.waits import until
 
 
 @pytest.fixture
@@ -139,6 +144,64 @@ def test_a_desk_that_serves_is_fenced_once_another_one_is_promoted(old: Half, ne
     old.ended("fenced", NOBODY, 0, "has been promoted to 2")
     with served(old.shows) as (url, _):
         assert new.asks("fenced", url) == (1, "")
+
+
+@contextlib.contextmanager
+def held(half: Half) -> Iterator[Path]:
+    """Another run has the lock, as the fence's."""
+    path = half.state / "lock"
+    with open(path, "wb") as file:
+        fcntl.flock(file, fcntl.LOCK_EX)
+        yield path
+
+
+def others_open(path: Path) -> bool:
+    """Whether another process has the file open."""
+    for link in Path("/proc").glob("[0-9]*/fd/*"):
+        with contextlib.suppress(OSError):
+            if link.parts[2] != str(os.getpid()) and os.readlink(link) == str(path):
+                return True
+    return False
+
+
+@pytest.mark.parametrize("does, says", (("start", "and has the term 0"), ("promote", "term 2: ")))
+def test_a_run_waits_until_the_fences_has_ended(
+    old: Half, new: Half, does: str, says: str
+) -> None:
+    with ThreadPoolExecutor(1) as pool, served(new.shows) as (url, asked):
+        with held(old) as lock:
+            run = pool.submit(old.asks, does, url, "--patience", "60")
+            until(30, "it waits", lambda: others_open(lock) or run.done())
+            assert asked == [] and not old.serves
+        status, said = run.result()
+    assert status == 0 and says in said and said.count("\n") == 1, said
+
+
+def test_it_does_not_wait_without_end_and_the_fence_not_at_all(old: Half, new: Half) -> None:
+    says = "desk-peer: another run is asking"
+    with held(old), served(new.shows) as (url, asked):
+        for does in ("start", "promote"):
+            old.ended(does, url, 3, says, "--patience", "1")
+        old.ended("fenced", url, 3, says, "--patience", "60")
+        assert asked == [] and not old.serves
+    assert (old.state / "term").read_text() == "1\n"
+
+
+@pytest.mark.parametrize("does", ("start", "promote", "fenced"))
+def test_a_program_that_is_not_whole_does_not_refuse(room: Path, does: str) -> None:
+    """Python's own status for a fault is 1, after which nothing would be started again."""
+    (room / "run").mkdir()
+    shutil.copy(ROOT / "packaging/desk-peer", room)
+    modules = room / "kovelamiru"
+    shutil.copytree(ROOT / "python/kovelamiru", modules)
+    words = [sys.executable, "-IB", room / "desk-peer", does, "--url", NOBODY, "--state", room]
+    words += ["--run", room / "run", "--patience", "0"]
+    for says in ("limits.json", "SyntaxError"):
+        done = subprocess.run(words, capture_output=True, text=True, check=False, timeout=120)
+        assert done.returncode == 3 and done.stdout == "" and says in done.stderr, done
+        assert done.stderr.startswith("desk-peer: ") and done.stderr.count("\n") == 1, done
+        (modules / "terms.py").write_text("(")
+    assert not [*(room / "run").iterdir()]
 
 
 CONDITION = """\

@@ -16,7 +16,8 @@ from .reader import ended
 RUN = "/run/kovelamiru-peer"
 # What the standby of this machine saw.
 FOLLOWED = "/var/lib/kovelamiru-standby/minutes.txt.term"
-# How long the other machine is asked for, how long one answer may take, and be, and the pauses.
+# How long another run is waited for, and then the other machine asked: longer than the fence's run
+# takes. How long one answer may take, and be, and the pauses.
 PATIENCE, ANSWER_SECONDS, ANSWER_BYTES, PAUSE = 30.0, 10.0, 4096, 1.0
 
 ABOUT = """\
@@ -26,8 +27,9 @@ and at /serves, while the desk serves or is about to, the file RUN/serves.
 
   start    may this machine's desk serve? kovelamiru-desk.service asks so at each start. Not while
            this machine has the term 0, nor where the other one has as great a term (status 1); not
-           yet while the other one serves, or doesn't answer (status 3, after 30 seconds). Where the
-           file STATE/alone is, it is removed, and the other machine isn't asked, once.
+           yet while the other one serves, or doesn't answer (status 3, after 30 seconds), or while
+           another run is asking, as the fence's. Where the file STATE/alone is, it is removed, and
+           the other machine isn't asked, once.
   promote  gives this machine a term above all that it saw, unless the other one serves. With
            --alone the other machine isn't asked, now and at the next start: it is off, or nobody
            reaches it, and that stays so until it has been started again as a standby or by `start`.
@@ -94,7 +96,7 @@ class Peer:
         if os.path.lexists(alone):
             os.unlink(alone)
             return f"{alone} said that the other machine doesn't serve; it is used up"
-        until, why = time.monotonic() + self.words.patience, ""
+        why = ""
         while True:
             try:
                 term, serves = self.asked()
@@ -107,7 +109,7 @@ class Peer:
                 if not serves:
                     return f"{self.url} doesn't serve, and has the term {term}"
                 why = f"{self.url} serves, or is about to"
-            if time.monotonic() >= until:
+            if time.monotonic() >= self.words.until:
                 raise Stop(LOST, f"not yet: {why}")
             time.sleep(PAUSE)
 
@@ -177,13 +179,16 @@ def words_of(arguments: Optional[list[str]]) -> argparse.Namespace:
         ("--followed", FOLLOWED, "the term that this machine's standby saw")):
         parser.add_argument(name, metavar="PATH", default=value, help=f"{text} ({value})")
     parser.add_argument("--patience", metavar="SECONDS", type=float, default=PATIENCE,
-                        help=f"how long the other machine is asked for ({PATIENCE:.0f})")
+                        help="how long another run is waited for, and the other machine asked"
+                        f" ({PATIENCE:.0f}); `fenced` doesn't wait")
     return parser.parse_args(arguments)
 
 
 def main() -> int:
     os.umask(0o022)
     words = words_of(None)
+    seconds = 0.0 if words.does == "fenced" else words.patience
+    words.until = time.monotonic() + seconds
 
     def work() -> int:
         if words.does == "fenced":
@@ -191,4 +196,4 @@ def main() -> int:
         print(start(words) if words.does == "start" else promote(words), file=sys.stderr)
         return DONE
 
-    return ended("desk-peer", os.path.join(words.state, "lock"), "asking", work)
+    return ended("desk-peer", os.path.join(words.state, "lock"), "asking", work, seconds)

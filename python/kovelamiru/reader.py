@@ -158,12 +158,27 @@ def has_reader(parser: argparse.ArgumentParser, words: argparse.Namespace) -> No
         parser.error("--cert and --cert-key go together")
 
 
-def ended(program: str, lock: str, does: str, work: Callable[[], int]) -> int:
-    """The status of a run that works alone: it has the lock, and a link there is nobody's. Why it
+def held(path: str, seconds: float) -> None:
+    """This run works alone to its end: it has the lock, which it waits for so long. A link there is
+    nobody's."""
+    opened = os.open(path, os.O_RDWR | os.O_CREAT | os.O_NOFOLLOW | os.O_CLOEXEC, 0o600)
+    until = time.monotonic() + seconds
+    while True:
+        try:
+            return fcntl.flock(opened, fcntl.LOCK_EX | fcntl.LOCK_NB)
+        except BlockingIOError:
+            if time.monotonic() >= until:
+                raise
+        time.sleep(0.1)
+
+
+def ended(
+    program: str, lock: str, does: str, work: Callable[[], int], seconds: float = 0,
+) -> int:
+    """The status of a run that works alone, and may wait so long for another one's end. Why it
     failed goes to standard error."""
     try:
-        opened = os.open(lock, os.O_RDWR | os.O_CREAT | os.O_NOFOLLOW | os.O_CLOEXEC, 0o600)
-        fcntl.flock(opened, fcntl.LOCK_EX | fcntl.LOCK_NB)
+        held(lock, seconds)
         return work()
     except BlockingIOError:
         status, text = LOST, f"another run is {does}"
