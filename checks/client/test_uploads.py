@@ -2,6 +2,8 @@
 beside what was signed before; a file that is submitted twice."""
 from __future__ import annotations
 
+import re
+
 import pytest
 
 from checks.support.between import NO_ANSWER, Between
@@ -9,7 +11,7 @@ from checks.support.deskctl import Office
 from checks.support.images import PLAIN, changed, sha256, with_table, with_text
 from checks.support.says import expect
 from checks.support.wire import wire
-from kovelamiru.titles import group_of, machine_names, name_of, titles_of
+from kovelamiru.titles import apart_in, group_of, machine_names, name_of, titles_of
 
 MACHINES = {"amd64": "6486", "arm64": "64aa", "i386": "4c01"}
 
@@ -37,14 +39,19 @@ AMD64, ARM64 = machine_names(image("amd64")), machine_names(image("arm64"))
 def test_a_title_says_the_architecture_and_what_distinguishes_the_file(
     title: str, files: list[tuple[str, tuple[str, ...]]], due: list[str]
 ) -> None:
-    expect(titles_of(title, files), [f"{title} {one}" for one in due], "the titles")
+    found = titles_of(title, files)
+    expect(found, [f"{title} {one}" for one in due], "the titles")
+    if re.search(r" [0-9]", title):
+        expect([(group_of(one), apart_in(one)) for one in found], [(title, one) for one in due],
+               "the upload, what tells each apart")
 
 
-@pytest.mark.parametrize("title, group, name", wire("cases/titles")["groups"])
-def test_titles_of_an_upload_begin_alike_and_have_a_name(
-    title: str, group: str | None, name: str
+@pytest.mark.parametrize("title, group, apart, name", wire("cases/titles")["titles"])
+def test_a_title_has_an_upload_what_tells_it_apart_there_and_a_name(
+    title: str, group: str | None, apart: str | None, name: str
 ) -> None:
-    expect((group_of(title), name_of(title)), (group, name), "the group, the name")
+    due = (group, title if apart is None else apart, name)
+    expect((group_of(title), apart_in(title), name_of(title)), due, "upload, apart, name")
 
 
 FILES = "vmlinuz-amd64 vmlinuz-cloud-amd64 vmlinuz-arm64"

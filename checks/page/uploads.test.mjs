@@ -49,9 +49,10 @@ test('the files of an upload are one where the first of them stands', () => {
     const all = uploadsIn([
         request(1, 'shim 16 amd64'), request(2, 'linux 6.12 amd64'), request(3, 'a loader'),
         request(4, 'linux 6.12 arm64'), request(5, 'linux 6.13 amd64'), request(6, 'a loader'),
-        request(7, 'linux 6.12 amd64 rt'),
+        request(7, 'linux 6.12 amd64 rt'), request(8, 'linux 6.12 riscv64', 'open', [], 'me'),
+        request(9, 'Fedora 41 shim 15.8'), request(10, 'Fedora 41 grub 2.12'),
     ]);
-    assert.deepEqual(names(all), [1, ['linux 6.12', 2, 4, 7], 3, 5, 6]);
+    assert.deepEqual(names(all), [1, ['linux 6.12', 2, 4, 7], 3, 5, 6, 8, 9, 10]);
     assert.deepEqual(uploadsIn([]), []);
 });
 
@@ -79,6 +80,8 @@ test('what waits for the vote is another’s, open, and without one’s own', ()
 test('the architecture is the one that the title names', () => {
     assert.equal(architectureIn('linux 6.12 cloud arm64 16k'), 'arm64');
     assert.equal(architectureIn('shim 16 X64'), 'X64');
+    assert.equal(architectureIn('linux 6.12 cloud-amd64'), 'cloud-amd64');
+    assert.equal(architectureIn('linux 6.12 constructor'), '');
     assert.equal(architectureIn('a loader'), '');
 });
 
@@ -131,7 +134,8 @@ test('what changed beside the last signed image is marked, but for its size', ()
 test('an upload is what waits of it now, at most fifty files of it', async () => {
     const waits = [
         request(3, 'linux 6.12 amd64'), request(4, 'linux 6.13 amd64'), request(5, 'linux 6.12 rt'),
-        request(6, 'linux 6.12 own', 'open', [], 'me'),
+        request(6, 'linux 6.12 armhf', 'open', [], 'me'),
+        request(8, 'linux 6.12 armhf', 'open', [], 'raul'),
     ];
     desk = {
         '/requests/2': request(2, 'linux 6.12 arm64', 'open', [vote('me')]),
@@ -148,7 +152,7 @@ test('an upload is what waits of it now, at most fifty files of it', async () =>
     assert.deepEqual([...before.keys()], ['linux amd64']);
     // Though nothing changed by the small answer, what waits is read again.
     desk['/waiting'].requests = Array.from({ length: 60 }, (_, at) => (
-        request(at + 10, `linux 6.12 ${at}`)
+        request(at + 10, `linux 6.12 amd64 x${at}`)
     ));
     const more = (await uploadOf(2)).value;
     assert.deepEqual([more.files.length, more.count], [50, 60]);

@@ -1,17 +1,16 @@
-// The files of one upload: requests whose titles begin alike. The desk knows no uploads, and each
-// file has votes of its own.
+// The files of one upload: requests of one submitter whose titles are alike but for what tells the
+// files apart. The desk knows no uploads, and each file has votes of its own.
 
 import { get } from './api.js';
 import { me } from './session.js';
 import { standing } from './standing.js';
-import { groupOf, nameOf } from './titles.js';
+import { groupOf, nameOf, namesArch } from './titles.js';
 import { waitingNow } from './waiting.js';
-import { wire } from '../formats/wire.js';
 import { votesBy } from '../formats/words.js';
 
 /**
  * @typedef {import('./types.js').Request} Request
- * @typedef {{ name: string, files: Request[] }} Upload
+ * @typedef {{ key: string, name: string, files: Request[] }} Upload
  * @typedef {{ name: string, files: Request[], count: number, before: Map<string, Request>,
  *   now: import('./standing.js').Standing }} Waiting
  * the files of an upload that wait for the person, the first of so many; of each name the request
@@ -25,22 +24,29 @@ const [PARTS, PART] = [5, 1000];
 /** How many requests that is. */
 export const LOOKED_THROUGH = PARTS * PART;
 
+// What the requests of an upload have in common, and no other has.
+/** @param {Request} request */
+export function uploadKey({ number, submitter, title }) {
+    const name = groupOf(title);
+    return name === null ? String(number) : `${submitter} ${name}`;
+}
+
 /**
  * Requests in their order, those of an upload as one where the first of them stands.
  * @param {Request[]} requests
  * @returns {(Request | Upload)[]}
  */
 export function uploadsIn(requests) {
-    /** @type {Map<string | number, Request[]>} */
+    /** @type {Map<string, Request[]>} */
     const groups = new Map();
     for (const one of requests) {
-        const begin = groupOf(one.title) ?? one.number;
-        const files = groups.get(begin);
+        const key = uploadKey(one);
+        const files = groups.get(key);
         if (files) files.push(one);
-        else groups.set(begin, [one]);
+        else groups.set(key, [one]);
     }
-    return [...groups].map(([name, files]) => (
-        files.length === 1 ? files[0] : { name: String(name), files }
+    return [...groups].map(([key, files]) => (
+        files.length === 1 ? files[0] : { key, name: groupOf(files[0].title) ?? '', files }
     ));
 }
 
@@ -66,9 +72,7 @@ export const waitsForVote = ({ state, submitter, votes }) => (
 
 // The architecture that a title names, or ''; the desk records none.
 /** @param {string} title */
-export const architectureIn = (title) => (
-    title.split(' ').find((word) => word.toLowerCase() in wire.words.arches) ?? ''
-);
+export const architectureIn = (title) => title.split(' ').find(namesArch) ?? '';
 
 /**
  * Of each name among these the request that was signed last, as far as the parts of the list have
@@ -109,15 +113,18 @@ export async function uploadOf(number) {
     if (waits.kind !== 'value') return waits;
     if (now.kind !== 'value') return now;
     const { title } = one.value;
-    const name = groupOf(title);
-    const all = waits.value.requests.filter(waitsForVote).filter((other) => (
-        name === null ? other.number === number : groupOf(other.title) === name
-    ));
+    const key = uploadKey(one.value);
+    const all = waits.value.requests.filter(waitsForVote)
+        .filter((other) => uploadKey(other) === key);
     const files = all.slice(0, MOST);
     const before = await lastSigned(files);
     if (before.kind !== 'value') return before;
     const value = {
-        name: name ?? title, files, count: all.length, before: before.value, now: now.value,
+        name: groupOf(title) ?? title,
+        files,
+        count: all.length,
+        before: before.value,
+        now: now.value,
     };
     return { kind: 'value', value };
 }

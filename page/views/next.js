@@ -4,7 +4,7 @@ import { fill, p } from './dom.js';
 import { proposalLink, requestLink, uploadLink } from './marks.js';
 import { me } from '../desk/session.js';
 import { groupOf } from '../desk/titles.js';
-import { waitsForVote } from '../desk/uploads.js';
+import { uploadKey, waitsForVote } from '../desk/uploads.js';
 import { inbox, look } from '../desk/waiting.js';
 import { counted } from '../formats/words.js';
 
@@ -32,11 +32,12 @@ export function nextPart(number) {
 
 // A request, and for a reviewer the files of its upload that wait too.
 /** @param {Request} next @param {Request[]} all @returns {Child} */
-function requestPart({ number, title }, all) {
+function requestPart(next, all) {
+    const { number, title } = next;
     const one = requestLink(number, `request ${number}, ${title}`);
-    const begin = groupOf(title);
-    const files = all.filter((other) => begin && waitsForVote(other)
-        && groupOf(other.title) === begin);
+    const key = uploadKey(next);
+    const files = all.filter((other) => waitsForVote(other) && uploadKey(other) === key);
     if (files.length < 2) return one;
-    return [uploadLink(number, `${begin}, ${counted(files.length, 'file')}`), ', or ', one];
+    const upload = `${groupOf(title)}, ${counted(files.length, 'file')}`;
+    return [uploadLink(number, upload), ', or ', one];
 }

@@ -61,7 +61,7 @@ function whole(place, number, { name, files, count, before, now }, out) {
     const all = files.map((one) => (
         { one, check: h('input', { type: 'checkbox', checked: !out.includes(one.number) }) }
     ));
-    const from = [...new Set(files.map(({ submitter }) => submitter))].join(', ');
+    const from = files[0].submitter;
     const left = count - files.length;
     place.append(
         h('h2', { class: 'title' }, name),

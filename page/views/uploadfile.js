@@ -5,7 +5,7 @@ import { box, facts, h, p, strong } from './dom.js';
 import { digest, requestLink } from './marks.js';
 import { besides, sameCarried } from '../desk/compare.js';
 import { barredBy } from '../desk/standing.js';
-import { behindGroup } from '../desk/titles.js';
+import { apartIn } from '../desk/titles.js';
 import { architectureIn } from '../desk/uploads.js';
 import { counted, ruleWords, votesBy } from '../formats/words.js';
 
@@ -81,7 +81,7 @@ export function fileCard(one, last, now, check) {
         h(
             'div',
             { class: 'head' },
-            h('h3', {}, h('label', {}, check, ' ', behindGroup(title))),
+            h('h3', {}, h('label', {}, check, ' ', apartIn(title))),
             h('span', {}, requestLink(number), `, ${votesBy(votes, state)}`),
         ),
         barred ? box('bad', p(strong('Barred today: '), `${ruleWords(barred)}.`)) : null,

@@ -31,10 +31,10 @@ export function uploadsTable(form) {
     const rows = () => all.flatMap((one) => {
         if (!('files' in one)) return [{ request: one, isFile: false }];
         const files = one.files.map((request) => ({ request, isFile: true }));
-        return [{ upload: one }, ...(open.has(one.name) ? files : [])];
+        return [{ upload: one }, ...(open.has(one.key) ? files : [])];
     });
-    const turn = (/** @type {string} */ name) => {
-        if (!open.delete(name)) open.add(name);
+    const turn = (/** @type {string} */ key) => {
+        if (!open.delete(key)) open.add(key);
         keepingFocus(table.place, () => table.set(rows(), true));
     };
     const table = paged({
@@ -61,23 +61,22 @@ function inside(cell) {
 
 /**
  * @param {Form} form @param {Upload} upload @param {Set<string>} open
- * @param {(name: string) => void} turn opens or closes an upload
+ * @param {(key: string) => void} turn opens or closes an upload
  */
-function headingCells({ caption, head, barred }, { name, files }, open, turn) {
+function headingCells({ caption, head, barred }, { key, name, files }, open, turn) {
     const count = h('span', { class: 'count' }, ` ${counted(files.length, 'file')}`);
-    const opens = button(name, () => turn(name), 'upload');
+    const opens = button(name, () => turn(key), 'upload');
     opens.append(count);
-    opens.setAttribute('aria-expanded', String(open.has(name)));
-    opens.dataset.value = `${caption}: ${name}`;
+    opens.setAttribute('aria-expanded', String(open.has(key)));
+    opens.dataset.value = `${caption}: ${key}`;
     const mine = files.filter(waitsForVote);
     const review = mine.length > 1
         ? uploadLink(mine[0].number, `Review ${counted(mine.length, 'file')}`) : null;
-    const from = [...new Set(files.map(({ submitter }) => withYou(submitter)))].join(', ');
     /** @type {Record<string, Child>} */
     const cells = {
         No: ['number', ''],
         Title: ['title', opens, ' ', barred(files), ' ', review],
-        From: ['from', from],
+        From: ['from', withYou(files[0].submitter)],
         State: statesOf(files),
         Votes: ['votes', reviewWords(files)],
         Size: ['size', ''],

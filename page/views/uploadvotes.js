@@ -11,7 +11,7 @@ import { matching } from '../desk/answers.js';
 import { jsonCommand } from '../desk/journal.js';
 import { severalQuestion } from '../desk/questions.js';
 import { standing } from '../desk/standing.js';
-import { behindGroup } from '../desk/titles.js';
+import { apartIn } from '../desk/titles.js';
 import { wire } from '../formats/wire.js';
 import { counted, textFault } from '../formats/words.js';
 
@@ -24,7 +24,7 @@ import { counted, textFault } from '../formats/words.js';
 const HINT = 'characters of ASCII; everybody who sees a request reads it.';
 
 /** @param {Request[]} files */
-export const named = (files) => files.map(({ title }) => behindGroup(title)).join(', ');
+export const named = (files) => files.map(({ title }) => apartIn(title)).join(', ');
 
 /** @param {Choice[]} all @param {(told: Told) => void} again shows the view anew */
 export function voteForm(all, again) {
@@ -102,7 +102,7 @@ async function votes(files, vote, note, said) {
         const command = jsonCommand(what, path, { note, vote }, matching(file));
         const reply = await act(command, answer);
         if (!reply) return stoppedAt(files, at, vote, list, answer);
-        const whole = `request ${number}, ${behindGroup(title)}: `;
+        const whole = `request ${number}, ${apartIn(title)}: `;
         list.append(h('li', {}, `${vote} on ${whole}`, badge(reply.state)));
     }
     const last = files[files.length - 1].number;
@@ -122,7 +122,7 @@ function stoppedAt(files, at, vote, list, answer) {
         : null;
     return [
         recorded,
-        p(strong(`It stopped at request ${number}, ${behindGroup(title)}.`)),
+        p(strong(`It stopped at request ${number}, ${apartIn(title)}.`)),
         answer,
         behind.length > 0 ? p(`Nothing was sent for ${named(behind)}.`) : null,
     ];

@@ -1,10 +1,12 @@
-"""Titles of requests: what several files of one upload are called, and which titles begin alike."""
+"""Titles of requests: what several files of one upload are called, and which titles are of one."""
 from __future__ import annotations
 
 import os
 import re
 import struct
 from typing import Optional, Sequence
+
+from .described import WORDS
 
 # Machines of PE images with what distributions and file names call them, the usual name first.
 MACHINES = {
@@ -50,11 +52,51 @@ def version_place(words: Sequence[str]) -> int:
     return next((at for at, word in enumerate(words) if at and re.match(r"v?\d", word)), 0)
 
 
+def pieces_of(word: str) -> list[str]:
+    return [one for one in re.split(r"[^a-z0-9_]+", word.lower()) if one]
+
+
+def is_known(piece: str) -> bool:
+    return piece in WORDS["arches"] or piece in WORDS["flavours"]
+
+
+def tells_apart(word: str) -> bool:
+    """Whether a word names architectures or flavours and nothing else."""
+    return bool(pieces_of(word)) and all(map(is_known, pieces_of(word)))
+
+
+def names_arch(word: str) -> bool:
+    return tells_apart(word) and any(one in WORDS["arches"] for one in pieces_of(word))
+
+
+def has_version(word: str) -> bool:
+    return any(re.match(r"v?\d", one) and not is_known(one) for one in pieces_of(word))
+
+
+def apart(words: Sequence[str]) -> set[int]:
+    """The places of the words of a title that tell a file of an upload apart: those that name its
+    architecture, and behind the last version what comes from an architecture or a flavour on. None
+    without a version."""
+    last = max((at for at, word in enumerate(words) if has_version(word)), default=0)
+    if last == 0:
+        return set()
+    tail = next((at for at in range(last + 1, len(words)) if tells_apart(words[at])), len(words))
+    return {at for at in range(1, len(words)) if at >= tail or names_arch(words[at])}
+
+
 def group_of(title: str) -> Optional[str]:
-    """How the titles of an upload begin: up to the version, where something comes behind it."""
+    """What an upload is called: the title but for what tells its files apart; None: it stands
+    alone."""
     words = title.split()
-    at = version_place(words)
-    return " ".join(words[:at + 1]) if 0 < at < len(words) - 1 else None
+    places = apart(words)
+    return " ".join(one for at, one in enumerate(words) if at not in places) if places else None
+
+
+def apart_in(title: str) -> str:
+    """What tells the file of an upload apart; a whole title that stands alone."""
+    words = title.split()
+    places = apart(words)
+    return " ".join(one for at, one in enumerate(words) if at in places) if places else title
 
 
 def name_of(title: str) -> str:

@@ -3,7 +3,7 @@ from __future__ import annotations
 
 import math
 import time
-from typing import Any, Optional
+from typing import Any, Optional, Sequence
 
 from ..answers import Request, me_of, request_of, shaped
 from ..described import WORDS
@@ -14,7 +14,7 @@ from ..http import Call
 from ..questions import plain_question, rule_words
 from ..search import request_matches
 from ..standing import barred_by, standing_of
-from ..titles import group_of
+from ..titles import apart_in, group_of
 from ..words import printable
 from .listing import List, Row, show
 from .run import OTHER_DESK, Run, act
@@ -47,26 +47,28 @@ def request_row(value: dict[str, Any]) -> tuple[object, ...]:
     return one.number, one.state, one.submitter, votes, one.file, one.title
 
 
-def grouped(rows: list[Row]) -> list[Row]:
-    """Rows whose titles begin alike, below a heading with their numbers, where the first one
-    stands."""
+def grouped(rows: Sequence[Row], title: int, submitter: int) -> list[Row]:
+    """The rows of an upload below a heading with their numbers, where the first one stands, by the
+    places of title and submitter in a row that begins with the number."""
     groups: dict[object, list[Row]] = {}
     for row in rows:
-        groups.setdefault(group_of(str(row[-1])) or row[0], []).append(row)
+        name = group_of(str(row[title]))
+        groups.setdefault(row[0] if name is None else (row[submitter], name), []).append(row)
     found: list[Row] = []
-    for begin, some in groups.items():
+    for some in groups.values():
         if len(some) == 1:
             found += some
             continue
-        found.append([f"{begin}: {' '.join(str(row[0]) for row in some)}"])
-        at = len(str(begin).split())
-        found += [[*row[:-1], "  " + " ".join(str(row[-1]).split()[at:])] for row in some]
+        numbers = " ".join(str(row[0]) for row in some)
+        found.append([f"{group_of(str(some[0][title]))}: {numbers}"])
+        found += [[*row[:title], "  " + apart_in(str(row[title])), *row[title + 1:]]
+                  for row in some]
     return found
 
 
 def requests(run: Run) -> None:
     show(run, ALL, ("NUMBER", "STATE", "SUBMITTER", "VOTES", "FILE", "TITLE"), 5, request_row, 4,
-         grouped)
+         lambda rows: grouped(rows, 5, 2))
 
 
 NEXT = {
