@@ -74,10 +74,11 @@ def test_each_role_sees_what_waits_for_it(filled: Office, between: Between, olde
 
 def test_a_terminal_of_80_columns_has_it(filled: Office) -> None:
     status, said = filled["raul"].asked("inbox", size=(24, 80))
+    expect(filled["raul"].asked("", size=(24, 80)), (status, said), "deskctl alone")
     expect((status, said.splitlines()), (0, [
-        "Waits for you: 2", "REQUEST  TITLE             BY   STATE                TODAY",
-        "1        linux 6.12 amd64  ann  1 of 2 yes, by rita  -",
-        "2        linux 6.12 arm64  ann  0 of 2 yes           barred", "Yours under way: 1",
+        "Waits for you: 2", "REQUEST  TITLE    BY   STATE                TODAY",
+        "linux 6.12: 1 2", "1          amd64  ann  1 of 2 yes, by rita  -",
+        "2          arm64  ann  0 of 2 yes           barred", "Yours under way: 1",
         "REQUEST  TITLE  BY    STATE       TODAY", "3        mine   raul  0 of 2 yes  -"]), "")
     status, said = filled["olga"].asked("inbox", size=(24, 80))
     expect((status, said.splitlines()), (0, [

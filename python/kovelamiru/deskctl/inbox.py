@@ -8,6 +8,7 @@ from ..proposals import counts_words, names_of
 from ..reasons import reasons_in, with_reason
 from ..standing import barred_by, revoked_of
 from ..waiting import ages_in, last_calls, own_proposals, waiting_of, yes_words
+from .requests import grouped
 from .run import Run
 from .seen import noticed
 
@@ -31,11 +32,12 @@ def proposal_rows(proposals: Sequence[Counts], ages: Mapping[int, str],
              ages.get(one.number, "-")) for one in proposals]
 
 
-def section(run: Run, title: str, heads: Sequence[str], rows: Rows) -> None:
-    """A table below its title; without a terminal the title's first word begins each line."""
+def section(run: Run, title: str, heads: Sequence[str], rows: Rows, is_grouped: bool) -> None:
+    """A table below its title, the files of an upload together; without a terminal the title's
+    first word begins each line."""
     if rows and run.terminal.wide:
         run.terminal.say(f"{title}: {len(rows)}")
-        run.terminal.table(heads, rows, 1, "")
+        run.terminal.table(heads, grouped(rows, 1, 2) if is_grouped else rows, 1, "")
     elif rows:
         begin = (title.split(" ")[0].lower(), heads[0].lower())
         run.terminal.table(heads, [(*begin, *row) for row in rows], 0, "")
@@ -65,12 +67,12 @@ def officers(run: Run, others: Sequence[Counts], own: Sequence[Counts]) -> None:
         names = {one.number: with_reason(told.get(one.number) or counts_words(one),
                                          reasons.get(one.number, [])) for one in [*others, *own]}
     heads = ("PROPOSAL", "NAMES", "BY", "AGE")
-    section(run, WAITS, heads, proposal_rows(others, ages, names))
-    section(run, OWN, heads, proposal_rows(own, ages, names))
+    section(run, WAITS, heads, proposal_rows(others, ages, names), False)
+    section(run, OWN, heads, proposal_rows(own, ages, names), False)
 
 
 def requesters(run: Run, me: Me, requests: Sequence[Request]) -> None:
     heads = ("REQUEST", "TITLE", "BY", "STATE", "TODAY")
     rows = request_rows(run, requests)
-    section(run, WAITS, heads, [row for row in rows if row[2] != me.name])
-    section(run, OWN, heads, [row for row in rows if row[2] == me.name])
+    section(run, WAITS, heads, [row for row in rows if row[2] != me.name], True)
+    section(run, OWN, heads, [row for row in rows if row[2] == me.name], True)
