@@ -47,27 +47,32 @@ def votes(site: Site) -> list[str]:
             for request in shown]
 
 
+def opens_and_closes(browser: Browser, view: str) -> None:
+    """The row of the upload in this view: its files are shown where it is open, and not else."""
+    browser.go(view)
+    browser.sees(f"{TITLE} 7 files", "1 of 2 yes, by raul", "Review 7 files", "another loader")
+    assert f"{TITLE} amd64" not in browser.text(), browser.text()
+    expect(len(browser.all("tbody tr")), 2, f"rows of the view {view}")
+    opens(browser)
+    expect(len(browser.all("tbody tr")), 9, f"rows of the open view {view}")
+    focus = browser.script("return document.activeElement.textContent")
+    expect(focus, f"{TITLE} 7 files", "where the focus stays")
+    shots(browser, f"upload-{view}")
+    looked(browser, f"an upload in {view}")
+    browser.go("lists")
+    browser.go(view)
+    browser.sees(f"{TITLE} amd64 cloud")
+    browser.press(f"{TITLE} 7 files")
+    until(20, "it is closed", lambda: len(browser.all("tbody tr")) == 2, browser.text)
+
+
 def test_an_upload_is_one_row_that_opens(browser: Browser, upload: Site) -> None:
     """Counts are of requests, as before."""
     for at in range(len(FILES)):
         upload.reviews("raul", FIRST + at)
     browser.sign_in(token("rita"))
     for view in ("inbox", "requests"):
-        browser.go(view)
-        browser.sees(f"{TITLE} 7 files", "1 of 2 yes, by raul", "Review 7 files", "another loader")
-        assert f"{TITLE} amd64" not in browser.text(), browser.text()
-        expect(len(browser.all("tbody tr")), 2, f"rows of the view {view}")
-        opens(browser)
-        expect(len(browser.all("tbody tr")), 9, f"rows of the open view {view}")
-        focus = browser.script("return document.activeElement.textContent")
-        expect(focus, f"{TITLE} 7 files", "where the focus stays")
-        shots(browser, f"upload-{view}")
-        looked(browser, f"an upload in {view}")
-        browser.go("lists")
-        browser.go(view)
-        browser.sees(f"{TITLE} amd64 cloud")
-        browser.press(f"{TITLE} 7 files")
-        until(20, "it is closed", lambda: len(browser.all("tbody tr")) == 2, browser.text)
+        opens_and_closes(browser, view)
     browser.go("inbox")
     browser.sees("Waits for you 8")
     expect(browser.texts("#views a")[0], "For you 8", "the count at the link")
@@ -89,6 +94,29 @@ def test_an_upload_is_one_row_that_opens(browser: Browser, upload: Site) -> None
     browser.sees(f"{TITLE} 2 files")
 
 
+def cards_are_of_their_files(browser: Browser, upload: Site) -> None:
+    """Each file has a card with its facts; the first one's says what changed."""
+    cards = browser.texts("section.file")
+    expect([card.split("\n")[0] for card in cards], FILES, "the files that are shown")
+    for card, name, at in zip(cards, FILES, range(FIRST, 9)):
+        request = upload.shows("olga", f"/requests/{at}")
+        lacking = [text for text in (
+            f"request {at}, ", name.split()[0], request["signing"], f"{request['length']:,} bytes",
+        ) if text not in card]
+        expect(lacking, [], f"what the card of {name} lacks")
+    expect(["changed" in card for card in cards], [True] + [False] * 6, "what is marked")
+
+
+def rejects_the_one_left_out(browser: Browser, upload: Site) -> None:
+    browser.press("arm64", tag="label")
+    browser.press("Vote no on 1 file")
+    browser.asks("Reject request 5?", "One vote of no rejects request 5 for good.")
+    browser.press("Vote no")
+    browser.sees("Your vote of no is in on 1 file.", "No file of this upload waits for your vote.",
+                 "Next: request 9, another loader; 1 waits for you.")
+    expect(votes(upload)[3], "rita:no", "the vote on the one that was left out")
+
+
 def test_six_of_seven_files_are_reviewed_in_one_look(browser: Browser, upload: Site) -> None:
     """What changed since the last signed one, and what is barred, is marked; one is left out."""
     for number in (FIRST, FIRST + 1):
@@ -104,15 +132,7 @@ def test_six_of_seven_files_are_reviewed_in_one_look(browser: Browser, upload: S
         "grub 4, before 3 changed", "sbat 1, as before", "Barred today: its digest is revoked.",
         "Yes: 2 files are approved, since one reviewer has agreed already; for",
     )
-    cards = browser.texts("section.file")
-    expect([card.split("\n")[0] for card in cards], FILES, "the files that are shown")
-    for card, name, at in zip(cards, FILES, range(FIRST, 9)):
-        request = upload.shows("olga", f"/requests/{at}")
-        lacking = [text for text in (
-            f"request {at}, ", name.split()[0], request["signing"], f"{request['length']:,} bytes",
-        ) if text not in card]
-        expect(lacking, [], f"what the card of {name} lacks")
-    expect(["changed" in card for card in cards], [True] + [False] * 6, "what is marked")
+    cards_are_of_their_files(browser, upload)
     shots(browser, "upload-review")
     looked(browser, "the review of an upload")
     browser.press("arm64", tag="label")
@@ -131,17 +151,10 @@ def test_six_of_seven_files_are_reviewed_in_one_look(browser: Browser, upload: S
     browser.sees("Your vote of yes is in on 6 files.", "yes on request 2, amd64: Approved",
                  "yes on request 8, arm64 rt: Open", "Next: request 9, another loader",
                  "; 2 wait for you.", "Review 1 file", "Vote yes on 0 files")
-    both, own = "raul:yes rita:yes", "rita:yes"
-    expect(votes(upload), [both, both, own, "", own, own, own], "the votes")
+    expect(votes(upload), ["raul:yes rita:yes"] * 2 + ["rita:yes", ""] + ["rita:yes"] * 3, "votes")
     note = upload.shows("olga", f"/requests/{FIRST + 6}")["votes"][0]["note"]
     expect(note, "read them all", "the note")
-    browser.press("arm64", tag="label")
-    browser.press("Vote no on 1 file")
-    browser.asks("Reject request 5?", "One vote of no rejects request 5 for good.")
-    browser.press("Vote no")
-    browser.sees("Your vote of no is in on 1 file.", "No file of this upload waits for your vote.",
-                 "Next: request 9, another loader; 1 waits for you.")
-    expect(votes(upload)[3], "rita:no", "the vote on the one that was left out")
+    rejects_the_one_left_out(browser, upload)
     expect(browser.complaints()[:4], [], "what the browser complains of")
 
 
