@@ -13,7 +13,7 @@ set -u
 needs rt
 top=$root
 crates=$(sed -n 's/^\([a-z_0-9]*\)[^#:]*:.*/\1/p' "$top/crates.txt")
-for crate in "$@" $(ls "$top/checks/wrong_bodies"); do
+for crate in "$@" $(cd "$top/checks/wrong_bodies" && ls -d -- */ | tr -d /); do
     grep -qx "$crate" <<< "$crates" || fail "there is no crate $crate"
 done
 

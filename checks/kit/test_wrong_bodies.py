@@ -30,6 +30,7 @@ def tree(tmp_path: Path) -> Path:
     ):
         (tmp_path / body).parent.mkdir(parents=True)
         (tmp_path / f"{body}.edit").touch()
+    (tmp_path / "checks/wrong_bodies/tried.tsv").touch()
     (tmp_path / "crates/one").mkdir()
     (tmp_path / "crates.txt").write_text("# a comment\ntwo: one\none: sha2\nnone:\n")
     (tmp_path / "HANDLES").touch()
