@@ -57,7 +57,9 @@ packed() { gzip -9n "$1"; }
 # ---- the files
 
 place 755 "$program" usr/bin/desk
-place 755 "$here/may-serve" "usr/lib/$name/may-serve"
+for script in may-serve fence; do
+    place 755 "$here/$script" "usr/lib/$name/$script"
+done
 for unit in desk.service fence.service fence.timer peer.service publish.service publish.timer standby.service standby.timer \
     mirror.service mirror.timer; do
     place 644 "$here/kovelamiru-$unit" "usr/lib/systemd/system/kovelamiru-$unit"

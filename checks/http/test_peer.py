@@ -146,6 +146,38 @@ def test_a_desk_that_serves_is_fenced_once_another_one_is_promoted(old: Half, ne
         assert new.asks("fenced", url) == (1, "")
 
 
+# It fails where the fence hasn't the lock.
+STOPS = """\
+#!/bin/sh
+flock -n "{state}/lock" true || echo "$*" >> "{state}/said"
+"""
+
+
+def test_the_fence_stops_no_desk_that_was_promoted_after_it_asked(
+    old: Half, new: Half, room: Path
+) -> None:
+    """While it stops one that wasn't, none is promoted."""
+    (room / "systemctl").write_text(STOPS.format(state=old.state))
+    (room / "systemctl").chmod(0o755)
+    script = (ROOT / "packaging/fence").read_text()
+    stops = script.replace("/var/lib/kovelamiru-peer", str(old.state))
+
+    def stopped(promoted: bool) -> int:
+        with served(new.shows) as (url, _):
+            old.ended("fenced", url, 0, "so this machine's desk stops")
+        if promoted:
+            old.ended("promote", NOBODY, 0, "this machine serves at the next start", "--alone")
+        path = f"{room}:{os.environ['PATH']}"
+        subprocess.run(["sh", "-c", stops], env={"PATH": path}, check=True, timeout=60)
+        said = old.state / "said"
+        return said.read_text().count("stop kovelamiru-desk.service\n") if said.exists() else 0
+
+    new.term(2)
+    assert stopped(promoted=True) == 0
+    new.term(9)
+    assert [stopped(promoted=one) for one in (False, False, True)] == [1, 2, 2]
+
+
 @contextlib.contextmanager
 def held(half: Half) -> Iterator[Path]:
     """Another run has the lock, as the fence's."""
@@ -194,7 +226,8 @@ def test_a_program_that_is_not_whole_does_not_refuse(room: Path, does: str) -> N
     shutil.copy(ROOT / "packaging/desk-peer", room)
     modules = room / "kovelamiru"
     shutil.copytree(ROOT / "python/kovelamiru", modules)
-    words = [sys.executable, "-IB", room / "desk-peer", does, "--url", NOBODY, "--state", room]
+    words: list[str | Path] = [sys.executable, "-IB", room / "desk-peer", does]
+    words += ["--url", NOBODY, "--state", room]
     words += ["--run", room / "run", "--patience", "0"]
     for says in ("limits.json", "SyntaxError"):
         done = subprocess.run(words, capture_output=True, text=True, check=False, timeout=120)

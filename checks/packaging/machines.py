@@ -87,8 +87,9 @@ class Machine(Booted):
         found = until(30, "an answer", lambda: self.asks(step.given), lambda: self.log(NAME))
         expect(found, step.due, f"the answer of {self.name}")
 
-    def changed(self, *lines: str) -> None:
-        """As by `systemctl edit`."""
-        text = "".join(f"{line}\n" for line in ("[Service]", *lines))
-        self.writes(f"/etc/systemd/system/{NAME}.service.d/override.conf", text)
+    def changed(self, *lines: str, unit: str = NAME, part: str = "Service") -> None:
+        """As by `systemctl edit`. Units of other kinds are named whole."""
+        text = "".join(f"{line}\n" for line in (f"[{part}]", *lines))
+        name = unit if "." in unit else f"{unit}.service"
+        self.writes(f"/etc/systemd/system/{name}.d/override.conf", text)
         self.run("systemctl", "daemon-reload")

@@ -54,7 +54,7 @@ def units(package: Package, room: Path) -> list[Path]:
     """The units, with the programs of the unpacked package."""
     for path in sorted((package.root / UNITS).iterdir()):
         text = re.sub(
-            r"(?m)^(ExecStart=|ExecCondition=\+?)/", rf"\1{package.root}/", path.read_text()
+            r"(?m)^(Exec(?:Start|Condition)=\+?)/", rf"\1{package.root}/", path.read_text()
         )
         (room / path.name).write_text(text)
     found = sorted(room.iterdir())
@@ -87,10 +87,11 @@ def test_each_start_asks_whether_it_may_serve_and_each_end_takes_its_mark_away(
     lines = service(package).splitlines()
     assert f"ExecCondition=+/usr/lib/{NAME}/may-serve" in lines
     assert "ExecStopPost=-+/bin/rm -f /run/kovelamiru-peer/serves" in lines
-    assert (package.root / f"usr/lib/{NAME}/may-serve").stat().st_mode & 0o111 == 0o111
+    for script in ("may-serve", "fence"):
+        assert (package.root / f"usr/lib/{NAME}/{script}").stat().st_mode & 0o111 == 0o111
     fence = package.text(f"{UNITS}/kovelamiru-fence.service").splitlines()
     assert "ExecCondition=/usr/bin/desk-peer fenced $PEER" in fence
-    assert f"ExecStart=+/usr/bin/systemctl stop {NAME}.service" in fence
+    assert f"ExecStart=+/usr/lib/{NAME}/fence" in fence
     shown = package.text(f"usr/share/{NAME}/nginx-desk.conf")
     for path in ("/run/kovelamiru-peer/serves", "/var/lib/kovelamiru-peer/term"):
         assert f"alias {path};" in shown

@@ -18,6 +18,7 @@ pytestmark = [
     pytest.mark.if_there("root", "network", "dpkg", "ip", "ss", "nsenter", "systemd", "namespaces"),
 ]
 COPIES = f"/var/backups/{NAME}"
+FENCE, OTHER = "kovelamiru-fence", "http://127.0.0.1:8881"
 # With what the kernel is told of the process: its one capability is that for its port.
 LIMITS = {
     "CapEff": "0000000000000400", "CapBnd": "0000000000000400", "NoNewPrivs": "1", "Seccomp": "2",
@@ -117,6 +118,30 @@ def test_a_desk_that_is_in_use_is_tried_until_it_is_free(serving: Machine) -> No
     serving.becomes("active")
     serving.answers(READS)
     assert serving.told(NAME, "ExecMainStatus")[0] == "0"
+
+
+def test_a_fence_that_asked_before_a_promotion_stops_no_desk(machine: Machine) -> None:
+    """Files that a server shows stand for the other machine. The fence's unit stops between its
+    question and its end."""
+    machine.founds([])
+    machine.run("install", "-d", "-o", NAME, "-g", NAME, "/var/lib/kovelamiru-peer")
+    machine.writes("/etc/default/kovelamiru-peer", f'PEER="--url {OTHER}"\n')
+    machine.writes("/run/other/term", "1\n")
+    serves = ("http.server", "--bind", "127.0.0.1", "-d", "/run/other", "8881")
+    machine.run("systemd-run", "--unit=other", "/usr/bin/python3", "-m", *serves)
+    until(30, "it serves", lambda: machine.listens("8881"))
+    waits = "ExecCondition=/bin/sh -c 'until [ -e /run/other/go ]; do sleep 0.1; done'"
+    machine.changed(waits, unit=FENCE)
+    machine.run("systemctl", "start", "--no-block", FENCE)
+    until(30, "it asked", lambda: "desk stops" in machine.log(FENCE), lambda: machine.log(FENCE))
+    machine.run(*AS_DESK, "desk-peer", "promote", "--url", OTHER)
+    machine.run("systemctl", "start", NAME)
+    machine.writes("/run/other/go", "")
+    machine.becomes("inactive", unit=FENCE)
+    assert machine.told(NAME, "ActiveState", "NRestarts") == ["active", "0"]
+    machine.writes("/run/other/term", "3\n")
+    machine.starts(FENCE)
+    assert machine.state() == "inactive"
 
 
 def test_an_upgrade_copies_the_desk_and_it_goes_on_and_a_removal_leaves_it(

@@ -2,6 +2,7 @@
 from __future__ import annotations
 
 import argparse
+import contextlib
 import os
 import ssl
 import sys
@@ -34,7 +35,8 @@ and at /serves, while the desk serves or is about to, the file RUN/serves.
            --alone the other machine isn't asked, now and at the next start: it is off, or nobody
            reaches it, and that stays so until it has been started again as a standby or by `start`.
   fenced   status 0 where the other one has a greater term. kovelamiru-fence.timer asks so each half
-           minute, and then stops this machine's desk; status 1 is silent.
+           minute, and then stops this machine's desk, unless it was promoted since (the file
+           STATE/promoted, which `promote` makes and `fenced` removes); status 1 is silent.
 
 So the old machine, which comes back, doesn't serve: the other one's term is greater. desk-standby
 and desk-publish refuse a desk of a lower term than they saw.
@@ -132,6 +134,11 @@ def start(words: argparse.Namespace) -> str:
         raise
 
 
+def marked(path: str) -> None:
+    """There is an empty file."""
+    os.close(os.open(path, os.O_WRONLY | os.O_CREAT | os.O_CLOEXEC, 0o644))
+
+
 def promote(words: argparse.Namespace) -> str:
     """A greater term, on the disk; with --alone also the word that one start uses up."""
     peer, other = Peer(words), 1
@@ -144,14 +151,16 @@ def promote(words: argparse.Namespace) -> str:
         if serves:
             raise Stop(REFUSED, f"refused serves: {words.url} serves: stop its kovelamiru-desk")
     term = max(peer.seen, other) + 1
+    marked(peer.at("promoted"))
     terms.keep(peer.at("term"), term)
     if words.alone:
-        os.close(os.open(peer.at("alone"), os.O_WRONLY | os.O_CREAT | os.O_CLOEXEC, 0o644))
+        marked(peer.at("alone"))
     return f"term {term}: this machine serves at the next start of kovelamiru-desk"
 
 
 def fenced(words: argparse.Namespace) -> int:
-    """Whether the other machine has been promoted since this desk began."""
+    """Whether the other machine has been promoted since this desk began. packaging/fence then stops
+    it, but where the mark says that this one has been promoted after this run."""
     peer = Peer(words)
     try:
         term, _ = peer.asked()
@@ -159,6 +168,8 @@ def fenced(words: argparse.Namespace) -> int:
         term = 0
     if max(term, peer.seen) <= peer.own:
         return REFUSED
+    with contextlib.suppress(FileNotFoundError):
+        os.unlink(peer.at("promoted"))
     print(f"term {peer.own}: {words.url} has been promoted to {max(term, peer.seen)}, so this"
           " machine's desk stops", file=sys.stderr)
     return DONE
