@@ -107,8 +107,10 @@ the count that is expected. If both are given, and nothing is doubtful, it asks 
 isn't so, it ends with status 2.
 
 Several requests that are reviewed at once, or the files of a folder that are returned, are one
-question. Each call has its own key and precondition; what the desk refuses is told, and the others
-go on, with status 1. Where no answer comes the others aren't sent: the same command goes on.
+question. Each call has its own key and precondition. A file that the desk refuses is told, and the
+others go on, with status 1. Votes go out in turn, none behind one that is refused, since what was
+looked at isn't what is there: deskctl says which ones are in, and with which numbers to go on.
+Where no answer comes the others aren't sent: the same command goes on.
 
 Without a terminal deskctl sends nothing where it would ask, unless `--yes` is given. A desk that
 is older than deskctl doesn't show what a proposal names: then `confirm` says so, and asks for the

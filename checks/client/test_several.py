@@ -1,7 +1,9 @@
 """Several votes, and a folder of signed files, by one run: each call has its own key and its own
-precondition, what is refused is told, and each takes effect once."""
+precondition, and takes effect once. Votes end at the first that is refused; of a folder what is
+refused is told."""
 from __future__ import annotations
 
+import json
 from typing import Any
 
 import pytest
@@ -83,15 +85,70 @@ def test_one_question_is_asked_for_all_of_them(filled: Office) -> None:
     expect(votes(filled)[3], "rejected 1", "the votes")
 
 
-def test_what_is_refused_is_told_and_the_others_go_on(filled: Office) -> None:
-    rita = filled["rita"]
+STOPPED = "It stopped at request 1. Your vote of yes is in on request 2. This run sent nothing for"
+LEFT = "To go on, run the same command with the numbers that are left:"
+
+
+def test_votes_end_at_the_first_that_is_refused(filled: Office) -> None:
+    """It is told which ones are in, which aren't, and how to go on; going on does what is told."""
+    rita, raul, rosa = filled["rita"], filled["raul"], filled["rosa"]
     rita.does("review 1 yes")
-    said_ = rita.ends(1, "review 1 2 yes", "deskctl: request 1: refused 26 AlreadyReviewed")
-    expect(said_, "request 2 reviewed: open\n", "what is printed")
-    expect(rita.pending(), [], "the journal")
+    said_ = rita.ends(1, "review 2 1 4 3 yes --yes", "deskctl: refused 26 AlreadyReviewed",
+                      f"{STOPPED} requests 4, 3.", "A vote stands as it was given", f"{LEFT} 4 3\n")
+    expect((said_, rita.pending()), ("request 2 reviewed: open\n", []), "printed, the journal")
+    expect(votes(filled), {1: "open 1", 2: "open 1", 3: "open 0", 4: "open 0"}, "the votes")
+    # The first one, and the last one.
+    filled["ann"].does("withdraw 4")
+    filled.refuses(
+        "raul", "review 4 1 3 yes --yes", "refused 24 WrongState", "Request 4 is withdrawn.",
+        "at request 4. This run recorded no vote, and sent nothing for requests 1, 3.",
+        f"{LEFT} 1 3\n", status=1)
+    raul.does("review 1 3 yes", "request 1 reviewed: approved", "request 3 reviewed: open")
+    last = rosa.run("review 2 3 1 yes --yes")
+    assert "at request 1. Your vote of yes is in on requests 2, 3.\n" in last.err, last.err
+    assert last.status == 1 and "sent nothing" not in last.err and LEFT not in last.err, last.err
+    expect(votes(filled), {1: "approved 2", 2: "approved 2", 3: "approved 2", 4: "withdrawn 0"},
+           "the votes")
+    alone = filled.refuses("rita", "review 1 yes", "refused 24", status=1)
+    assert "It stopped" not in alone, alone
     filled.refuses("sid", "review 2 4 no", "refused 21 NotYourRole", "is for reviewers",
-                   "It stopped at request 2; 1 more weren't sent.", status=1)
-    expect(len(filled["raul"].json_lines("review 3 4 no --yes")), 2, "replies as JSON")
+                   "It stopped at request 2. This run recorded no vote, and sent", status=1)
+
+
+@pytest.mark.parametrize("status, number, name, left", [
+    (404, 23, "NoSuchRequest", "3"), (409, 24, "WrongState", "3"), (409, 25, "OwnRequest", "3"),
+    (409, 26, "AlreadyReviewed", "3"), (412, 49, "Mismatch", "1 3"), (409, 36, "Full", ""),
+])
+def test_what_is_left_is_what_may_take_the_vote(
+    filled: Office, between: Between, status: int, number: int, name: str, left: str
+) -> None:
+    """A number that is another file by then may, once it was looked at; at a full desk none."""
+    raul = filled["raul"].at(between.url)
+    refused = instead(status, said({"name": name, "refused": number}), JSON)
+    between.loses = [lambda request, ask: ask(request), refused]
+    found = raul.run("review 2 1 3 yes")
+    expect((found.status, found.out), (1, "request 2 reviewed: open\n"), "how it ends")
+    assert f"refused {number} {name}: " in found.err, found.err
+    assert f"{STOPPED} request 3.\n" in found.err, found.err
+    assert ("is another file now" in found.err) == (number == 49), found.err
+    expect([line.split(": ")[1] for line in found.err.splitlines() if LEFT in line],
+           [left] if left else [], "what is left")
+    expect(([path for path, _ in tags(between)], raul.pending()),
+           (["/requests/2/review", "/requests/1/review"], []), "what went out, the journal")
+    if left:
+        raul.does(f"review {left} yes", *(f"request {at} reviewed" for at in left.split()))
+    on = {2, *map(int, left.split())}
+    expect(votes(filled), {at: f"open {int(at in on)}" for at in (1, 2, 3, 4)}, "the votes")
+    filled.once(len(POSTS) + len(on))
+
+
+def test_replies_of_several_votes_are_json_a_line_each(filled: Office) -> None:
+    """So are those before one that is refused."""
+    raul = filled["raul"]
+    expect(len(raul.json_lines("review 3 4 no --yes")), 2, "replies as JSON")
+    found = raul.run("review 1 3 2 yes --json")
+    expect((found.status, [json.loads(line)["reply"] for line in found.out.splitlines()]),
+           (1, ["reviewed"]), "the replies")
 
 
 def test_a_lost_answer_keeps_the_keys_of_all_and_each_acts_once(
@@ -99,8 +156,8 @@ def test_a_lost_answer_keeps_the_keys_of_all_and_each_acts_once(
 ) -> None:
     raul, line = filled["raul"].at(between.url), "review 1 2 3 yes --retries 0"
     between.loses = [lambda request, ask: ask(request), NO_ANSWER]
-    said_ = raul.ends(3, line, "It stopped at request 2; 1 more weren't sent.",
-                      "1 of 3 have their answer", AGAIN)
+    said_ = raul.ends(3, line, "It stopped at request 2. Your vote of yes is in on request 1. This",
+                      "sent nothing for request 3.", "1 of 3 have their answer", AGAIN)
     expect(said_, "request 1 reviewed: open\n", "what is printed")
     expect(len(raul.pending()), 1, "the journal")
     raul.does("pending", "review 1 2 3 yes")
@@ -109,15 +166,42 @@ def test_a_lost_answer_keeps_the_keys_of_all_and_each_acts_once(
     filled.once(len(POSTS) + 3)
 
 
-def test_a_number_that_is_another_file_by_then_gets_no_vote(
+def test_the_first_answer_lost_isnt_told_as_no_vote(filled: Office, between: Between) -> None:
+    raul, line = filled["raul"].at(between.url), "review 1 2 yes --retries 0"
+    between.loses = [NO_ANSWER]
+    raul.ends(3, line, "It stopped at request 1. This run sent nothing for request 2.", AGAIN)
+    raul.does(line, "request 1 reviewed: open", "request 2 reviewed: open", err=["taking up"])
+    filled.once(len(POSTS) + 2)
+
+
+def test_a_refusal_behind_a_lost_answer_lets_go_of_the_keys(
     filled: Office, between: Between
 ) -> None:
-    raul = filled["raul"].at(between.url)
-    mismatch = instead(412, said({"name": "Mismatch", "refused": 49}), JSON)
-    between.loses = [mismatch]
-    raul.ends(1, "review 1 2 yes", "request 1: refused 49", "is another file now",
-              out=["request 2 reviewed"])
-    expect(votes(filled)[1], "open 0", "the votes")
+    """The vote of the lost answer is in; the one behind it is refused by then."""
+    raul, line = filled["raul"].at(between.url), "review 1 2 3 yes --retries 0"
+    between.loses = [NO_ANSWER]
+    raul.ends(3, line, AGAIN)
+    filled["ann"].does("withdraw 2")
+    raul.ends(1, line, "taking up", "refused 24 WrongState", "Your vote of yes is in on request 1.",
+              f"{LEFT} 3\n", out=["request 1 reviewed: open"])
+    expect(raul.pending(), [], "the journal")
+    raul.does("review 3 yes --retries 0", "request 3 reviewed: open")
+    expect(votes(filled), {1: "open 1", 2: "withdrawn 0", 3: "open 1", 4: "open 0"}, "the votes")
+    filled.once(len(POSTS) + 3)
+
+
+def test_a_refusal_of_the_proxys_keeps_the_keys_and_the_same_command_goes_on(
+    filled: Office, between: Between
+) -> None:
+    """It says nothing of the vote."""
+    raul, line = filled["raul"].at(between.url), "review 2 1 3 yes"
+    between.loses = [lambda request, ask: ask(request), instead(403)]
+    found = raul.run(line)
+    assert found.status == 1 and f"{STOPPED} request 3.\n" in found.err, found.err
+    assert "1 of 3 have their answer; the same command goes on" in found.err, found.err
+    assert LEFT not in found.err, found.err
+    raul.does(line, "request 1 reviewed: open", "request 3 reviewed: open", err=["taking up"])
+    filled.once(len(POSTS) + 3)
 
 
 # ---- a folder of signed files

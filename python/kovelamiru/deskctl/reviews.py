@@ -6,7 +6,7 @@ from typing import Any, Optional, Sequence
 from ..answers import Request, me_of, request_of, shaped, titled
 from ..compare import beside_lines
 from ..described import LIMITS
-from ..faults import Causes, Refused
+from ..faults import Causes, Refused, Stop
 from ..http import Call
 from ..questions import plain_question, several_question, yes_question
 from ..standing import standing_of
@@ -14,10 +14,12 @@ from ..titles import name_of
 from ..waiting import yes_words
 from ..words import desk_json, printable
 from .requests import NEXT, another_file, ascii_text, state_of
-from .run import One, Run, act_each
+from .run import One, Run, act_in_turn
 
 # So many parts of the list are looked through for what was signed before, of so many requests each.
 PARTS, PART = 5, 1000
+# By these the request takes no vote of the caller's any more; at a Mismatch it is to be looked at.
+OVER, MISMATCH = (23, 24, 25, 26), 49
 OWN_REQUEST = "You submitted it yourself: the desk takes votes of other reviewers alone."
 
 
@@ -109,6 +111,27 @@ def voted(run: Run, number: int, alone: bool, reply: dict[str, Any]) -> None:
         run.terminal.note(f"{state}: {NEXT.get(state, '')}.")
 
 
+def requests_words(numbers: Sequence[int]) -> str:
+    return f"request{'s' * (len(numbers) > 1)} {', '.join(map(str, numbers))}"
+
+
+def ended_at(run: Run, numbers: Sequence[int], at: int, stop: Stop) -> None:
+    """Says which of several requests have the vote, and which ones are left to go on with."""
+    before, behind = numbers[:at], numbers[at + 1:]
+    parts = [f"It stopped at request {numbers[at]}."]
+    if before:
+        parts.append(f"Your vote of {run.words.vote} is in on {requests_words(before)}.")
+    if behind:
+        none = "recorded no vote, and " if stop.settles() and not before else ""
+        parts.append(f"This run {none}sent nothing for {requests_words(behind)}.")
+    stop.more.insert(0, " ".join(parts))
+    number = stop.number if isinstance(stop, Refused) else None
+    left = behind if number in OVER else numbers[at:] if number == MISMATCH else ()
+    if left:
+        stop.more.append("To go on, run the same command with the numbers that are left:"
+                         f" {' '.join(map(str, left))}")
+
+
 def review(run: Run) -> None:
     numbers = list(dict.fromkeys(run.words.numbers))
     note = ascii_text(run.words.note, "note", 0, LIMITS["note"])
@@ -124,4 +147,8 @@ def review(run: Run) -> None:
     def asks(taken: bool) -> Optional[list[str]]:
         return None if taken else review_asks(run, numbers)
 
-    act_each(run, list(map(one, numbers)), asks)
+    def ended(at: int, stop: Stop) -> None:
+        if len(numbers) > 1:
+            ended_at(run, numbers, at, stop)
+
+    act_in_turn(run, list(map(one, numbers)), asks, ended)

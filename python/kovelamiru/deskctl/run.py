@@ -87,6 +87,16 @@ def act_each(run: Run, ones: Sequence[One], asks: Asks) -> NoReturn:
          lambda entry, taken: exchange_each(run, ones, entry, taken))
 
 
+# Says where calls in turn end at the one of this place.
+Ended = Callable[[int, Stop], None]
+
+
+def act_in_turn(run: Run, ones: Sequence[One], asks: Asks, ended: Ended) -> NoReturn:
+    """The same of calls none of which goes out behind one that is refused."""
+    made(run, [one.call for one in ones], asks,
+         lambda entry, taken: exchange_in_turn(run, ones, entry, taken, ended))
+
+
 def identity_of(run: Run, calls: Sequence[Call]) -> list[Any]:
     """What the journal knows a command by."""
     return [str(run.desk.where), run.desk.caller, [call.identity() for call in calls]]
@@ -192,11 +202,34 @@ def exchange_each(run: Run, ones: Sequence[One], entry: Entry, taken: bool) -> i
                 stop.more.insert(0, f"It stopped at {one.name}; {rest} more weren't sent.")
             stopped(entry, stop, taken, f"{at} of {len(ones)} have their answer" if at else "")
             raise
-        if run.words.json:
-            run.print_json(reply)
-        else:
-            one.show(reply)
+        shown(run, one, reply)
     return status
+
+
+def exchange_in_turn(run: Run, ones: Sequence[One], entry: Entry, taken: bool,
+                     ended: Ended) -> int:
+    """Shows each reply as it comes. With the first refusal by the desk's rules the keys go: those
+    before it have their replies, and none behind it went out."""
+    for at, (one, key, tag) in enumerate(zip(ones, entry.keys, entry.tags)):
+        try:
+            reply = replied(run.desk.ask(one.call.given(key, tag)), one.call)
+        except Stop as stop:
+            if isinstance(stop, Refused):
+                explained(stop, one.causes)
+            ended(at, stop)
+            run.terminal.flush()
+            goes_on = at and not stop.settles()
+            stopped(entry, stop, taken, f"{at} of {len(ones)} have their answer" if goes_on else "")
+            raise
+        shown(run, one, reply)
+    return DONE
+
+
+def shown(run: Run, one: One, reply: dict[str, Any]) -> None:
+    if run.words.json:
+        run.print_json(reply)
+    else:
+        one.show(reply)
 
 
 def stopped(entry: Entry, stop: Stop, taken: bool, answered: str) -> None:

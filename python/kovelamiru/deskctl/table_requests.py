@@ -56,7 +56,8 @@ REQUESTS: tuple[Command, ...] = (
             "reviewers",
             ("A yes on an image that is barred today needs --yes, or yes typed on a terminal. There"
              " it asks before a no and before the yes that approves, too. Several are shown, and"
-             " asked about at once; what the desk refuses is told, and the others go on."),
+             " asked about at once. Their votes go out in turn, none behind one that is refused: it"
+             " says which ones are in, and how to go on."),
             "deskctl review 1 yes --note 'built from the tag, SBAT unchanged'"),
     Command("withdraw", "Requests", "N", "take back a request of your own", withdraw, (NUMBER,),
             "submitters and reviewers", "On a terminal it asks first.", "deskctl withdraw 1"),
