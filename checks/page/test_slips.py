@@ -7,7 +7,9 @@ from typing import Iterator
 import pytest
 from selenium.webdriver.common.keys import Keys
 
-from checks.page.site import CERTIFICATE, Site, unsigned
+from checks.page.conftest import shots
+from checks.page.looked import looked
+from checks.page.site import CERTIFICATE, Site, signed, unsigned
 from checks.support.browser import Browser
 from checks.support.cases import SIGNER
 from checks.support.images import sha256
@@ -16,6 +18,7 @@ from checks.support.says import expect
 
 # As openssl prints a fingerprint.
 COLONS = ":".join(["AB"] * 32)
+IN_ANOTHER = "image was submitted before in another file"
 DIGESTS, TBS = "Digests, one a line", "Or the SHA-256 of its TBSCertificate"
 
 
@@ -137,3 +140,43 @@ def test_the_submitted_file_is_told_before_it_is_returned_and_refused(
     browser.press("Return it")
     browser.sees("Refused: NotListed (29).")
     expect(site.shows("sid", f"/requests/{number}")["state"], "approved", "the request")
+
+
+def test_what_was_submitted_before_is_told_where_it_is_chosen(
+    browser: Browser, site: Site
+) -> None:
+    """The same file, or by its digests its image in another one: signed since, padded for that, or
+    with its signature taken off. Nothing is told of another's, or of one that was withdrawn."""
+    plain, bare, anothers, gone = (unsigned(number) for number in range(110, 114))
+    odd = unsigned(114) + b"12345"
+    for image in (plain, odd, signed(bare), gone):
+        site.submits(image, "before")
+    site.does("ann", "/requests/4/withdraw", b"")
+    site.submits(anothers, "raul's own", "raul")
+    browser.sign_in(token("ann"))
+    browser.go("submit")
+
+    def chooses(data: bytes) -> None:
+        path = site.room / f"{sha256(data)[:8]}.efi"
+        path.write_bytes(data)
+        browser.choose("EFI image", path)
+        browser.sees(sha256(data))
+
+    for data in (anothers, gone, b"no image"):
+        chooses(data)
+        browser.module("desk/lists.js", "module.listed('requests').then(({ kind }) => kind)")
+        assert "submitted before" not in browser.text(), browser.text()
+    for data, what, number in (
+        (odd, "file was submitted before", 2), (plain, "file was submitted before", 1),
+        (signed(plain), IN_ANOTHER, 1), (signed(odd + bytes(3)), IN_ANOTHER, 2),
+        (bare, IN_ANOTHER, 3),
+    ):
+        chooses(data)
+        browser.sees(f"The same {what}, as request {number} (open). The desk takes",
+                     f"Look at request {number}")
+    looked(browser, "an image that was submitted before")
+    shots(browser, "submitted-before")
+    # It is told, and no more.
+    browser.fill("Title", "again")
+    browser.press("Submit")
+    browser.sees("This is request 6.")
