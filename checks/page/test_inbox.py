@@ -15,6 +15,7 @@ from checks.support.says import expect
 from checks.support.steps import shown
 from checks.support.waits import until
 
+NAMED = "digest 55555555.., which newly bars no known image"
 LOOK = "module.look(true).then(({ kind }) => kind)"
 
 
@@ -81,8 +82,8 @@ def test_a_submitters_requests_that_changed_count_until_she_looks_at_them(
 
 
 @pytest.mark.parametrize("name, says", [
-    ("olga", ["Waits for you 1", "1 digest", "None of your proposals is open."]),
-    ("otto", ["No proposal waits for you.", "Yours under way 1", "1 digest", "otto (you)"]),
+    ("olga", ["Waits for you 1", NAMED, "None of your proposals is open."]),
+    ("otto", ["No proposal waits for you.", "Yours under way 1", NAMED, "otto (you)"]),
     ("sid", ["to be signed"]), ("ann", ["to be signed"]),
 ])
 def test_each_role_sees_what_waits(
@@ -96,7 +97,7 @@ def test_each_role_sees_what_waits(
     for reviewer in ("rita", "raul"):
         site.reviews(reviewer, number)
     site.proposes("5" * 64)
-    browser.press("For you", tag="a")
+    browser.click("#views a")
     browser.sees(*says)
     looked(browser, f"the first view of {name}")
 
