@@ -2,7 +2,7 @@
 refuses at sight. Proves nothing and runs no program: it reads the sources.
 
 A claim of docs/PROVED.md is a row of a table that begins `| Call | Clause |`. Its first cell has
-calls, each with its crate in front (`desk_store::Desk::open`), and its second the names of clauses,
+calls, each with its crate in front (`store_desk::Desk::open`), and its second the names of clauses,
 in backticks; an empty second cell stands for a clause without a name. The row claims every one of
 these clauses of every one of these calls."""
 from __future__ import annotations

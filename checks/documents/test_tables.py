@@ -15,10 +15,10 @@ from checks.support.tools import ROOT, ran
 pytestmark = [pytest.mark.needs("rt", "sqlite3"), pytest.mark.long(300), pytest.mark.timeout(1200)]
 TABLES = ROOT / "checks" / "tables"
 BELOW = (
-    "desk_bytes", "pe_image", "sbat", "desk_texts", "desk_history", "store_sql", "store_schema",
+    "base", "pe_image", "sbat", "desk_types", "desk_history", "store_sql", "store_schema",
     "store_writes",
 )
-GRAPH = "write_day: store_writes store_schema store_sql desk_history desk_texts sbat desk_bytes"
+GRAPH = "write_day: store_writes store_schema store_sql desk_history desk_types sbat base"
 
 
 @pytest.fixture(scope="module")

@@ -9,13 +9,13 @@ from checks.support.tools import ROOT
 CRATES = ROOT / "crates"
 
 LIMITS = {
-    "image": ("desk_bytes/src/limits.rt", "LONGEST_IMAGE"),
+    "image": ("base/src/limits.rt", "LONGEST_IMAGE"),
     "body": ("http_requests/src/route.rt", "LONGEST_BODY"),
-    "certificate": ("desk_texts/src/certificate.rt", "LONGEST_CERTIFICATE"),
-    "entries": ("desk_texts/src/import.rt", "MOST_IMPORTED"),
-    "title": ("desk_texts/src/forms.rt", "LONGEST_TITLE"),
-    "note": ("desk_texts/src/forms.rt", "LONGEST_NOTE"),
-    "reason": ("desk_texts/src/forms.rt", "LONGEST_REASON"),
+    "certificate": ("desk_types/src/certificate.rt", "LONGEST_CERTIFICATE"),
+    "entries": ("desk_types/src/import.rt", "MOST_IMPORTED"),
+    "title": ("desk_types/src/forms.rt", "LONGEST_TITLE"),
+    "note": ("desk_types/src/forms.rt", "LONGEST_NOTE"),
+    "reason": ("desk_types/src/forms.rt", "LONGEST_REASON"),
 }
 # Refusals of a request, one or more, and their status.
 ARM = re.compile(r"((?:[\s|]*Refused::\w+(?:\(\w+\))?)+) =>[\s{]*Status::(\w+)")
@@ -42,7 +42,7 @@ def variants(path: str, enum: str) -> Dict[str, str]:
 
 def refusals() -> List[Tuple[int, str, str, str]]:
     """The table of refusals: number, name, `device` or `input`, the sentences of its comment."""
-    path = "desk_bytes/src/refusal.rt"
+    path = "base/src/refusal.rt"
     text, sentences = source(path), variants(path, "Refusal")
     numbers = dict(re.findall(r"Refusal::(\w+) => (\d+),", text))
     names = dict(re.findall(r'Refusal::(\w+) => "(\w+)",', text))
@@ -122,6 +122,6 @@ def limits() -> Dict[str, int]:
 def words() -> Dict[str, List[str]]:
     """The words of roles, states of requests and votes, as texts have them, by their enums."""
     found: Dict[str, List[str]] = {}
-    for enum, word in re.findall(r'(\w+)::\w+ => "([a-z]+)"', source("desk_texts/src/words.rt")):
+    for enum, word in re.findall(r'(\w+)::\w+ => "([a-z]+)"', source("desk_types/src/words.rt")):
         found.setdefault(enum, []).append(word)
     return found

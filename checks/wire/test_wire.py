@@ -17,7 +17,7 @@ from checks.support.wire import FOLDER, wire
 from checks.wire import rattle
 
 # No request gets them: the routes have no command that could be refused by the first, and the
-# clause `named` of desk_calls' serving excludes the second.
+# clause `named` of http_calls' serving excludes the second.
 NEVER_SENT = {"NameTaken", "NotADesk"}
 
 

@@ -1,11 +1,11 @@
 -- Bodies read part by part, and as nested elements.
 use Rattle.std.proofs.Common.{◌≡◌, ℕ, eqb, true, List, [], ◌++◌, Option, Some, None, refl, sym, ap, ◌∙◌, subst, inl, inr, arith}
 use Rattle.std.proofs.lemmas.Bool.Decides.{nat_tests}
-use Rattle.desk_bytes.specs.Elements.{IsElement, sequence}
-use Rattle.desk_bytes.specs.Parts.{Part, element_of}
-use Rattle.desk_bytes.proofs.ElementLemmas.{chosen, element_of-each, element_of-some, some_same}
+use Rattle.base.specs.Elements.{IsElement, sequence}
+use Rattle.base.specs.Parts.{Part, element_of}
+use Rattle.base.proofs.ElementLemmas.{chosen, element_of-each, element_of-some, some_same}
 use Rattle.authenticode.specs.Bodies.{Begins, HoldsCertificates, HoldsSet}
-use Rattle.desk_bytes.specs.Lines.{begins_with}
+use Rattle.base.specs.Lines.{begins_with}
 use Rattle.authenticode.specs.SignedData.{◌>>=◌, certificate_set, certificates_of, first_own, integer, object_identifier, set, tagged, with_tag}
 
 bind-some : {A B : Type 0} (o : Option A) (f : A → Option B) (y : B) → (o >>= f) ≡ Some y → (x : A) × (o ≡ Some x) × (f x ≡ Some y)

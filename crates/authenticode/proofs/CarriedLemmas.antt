@@ -2,9 +2,9 @@
 use Rattle.std.proofs.Common.{◌≡◌, ◌≢◌, ℕ, ◌<◌, false, eqb, List, [], ◌∷◌, ◌++◌, length, Option, Some, None, Result, Ok, Err, IfErr, refl, sym, ap, ◌∙◌, subst, append-nil, inl, inr, arith}
 use Rattle.std.proofs.lemmas.Bool.Decides.{nat_tests}
 use Rattle.sha2.specs.Sha256.{sha256}
-use Rattle.desk_bytes.specs.Elements.{IsCertificate, sequence}
-use Rattle.desk_bytes.specs.Parts.{Part, element_of}
-use Rattle.desk_bytes.proofs.ElementLemmas.{some_same, tbs_is_one}
+use Rattle.base.specs.Elements.{IsCertificate, sequence}
+use Rattle.base.specs.Parts.{Part, element_of}
+use Rattle.base.proofs.ElementLemmas.{some_same, tbs_is_one}
 use Rattle.authenticode.specs.Carried.{GivesEntry, IsEntryFault, IsEntryOf}
 use Rattle.authenticode.specs.Certificates.{GivesCertificate, IsBodyOf, IsRowOf, IsTbsOf}
 use Rattle.authenticode.specs.Steps.Adding.{IsDerOnlyWhere}

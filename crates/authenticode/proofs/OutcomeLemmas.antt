@@ -1,8 +1,8 @@
 -- The one outcome of a table.
 use Rattle.std.proofs.Common.{◌≡◌, ◌≢◌, ℕ, true, false, Bool, List, length, refl, ap, ◌∙◌, subst, inl, inr, arith}
 use Rattle.std.specs.Prelude.{map}
-use Rattle.desk_bytes.specs.Digests.{IsArranged}
-use Rattle.desk_bytes.proofs.OrderLemmas.{IsArranged-one}
+use Rattle.base.specs.Digests.{IsArranged}
+use Rattle.base.proofs.OrderLemmas.{IsArranged-one}
 use Rattle.sha2.specs.Sha256.{sha256}
 use Rattle.authenticode.specs.Carried.{Carries, GivesEntry, IsCarried, IsFirstFault, IsUnreadable, IsWalked, PassesLimit}
 use Rattle.authenticode.specs.Walks.{Walks}

@@ -1,7 +1,7 @@
 -- The body of a signature (RFC 5652), as nested elements.
 use Rattle.std.specs.Prelude.{◌≡◌, ◌⊎◌, ℕ, false, List, [], ◌++◌}
-use Rattle.desk_bytes.specs.Elements.{IsElement, sequence}
-use Rattle.desk_bytes.specs.Lines.{begins_with}
+use Rattle.base.specs.Elements.{IsElement, sequence}
+use Rattle.base.specs.Lines.{begins_with}
 use Rattle.authenticode.specs.SignedData.{first_own, integer, object_identifier, set}
 
 -- the bytes are an element of this tag and content, and then `rest`

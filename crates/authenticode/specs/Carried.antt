@@ -1,7 +1,7 @@
 -- The certificates that an image carries in its certificate table.
 use Rattle.std.specs.Prelude.{◌≡◌, ◌≢◌, ◌⊎◌, ◌<◌, ◌≤◌, ⊤, ℕ, true, false, List, [], length, drop, map}
-use Rattle.desk_bytes.specs.Digests.{IsArranged}
-use Rattle.desk_bytes.specs.Limits.{most_certificates}
+use Rattle.base.specs.Digests.{IsArranged}
+use Rattle.base.specs.Limits.{most_certificates}
 use Rattle.sha2.specs.Sha256.{sha256}
 use Rattle.authenticode.specs.Certificates.{IsBodyOf}
 use Rattle.authenticode.specs.Walks.{Walks}

@@ -1,7 +1,7 @@
 -- The certificates of one body (RFC 5652, sections 10.2.2 and 10.2.3).
 use Rattle.std.specs.Prelude.{◌≡◌, ◌≢◌, ◌⊎◌, ℕ, List, [], ◌∷◌, Some}
-use Rattle.desk_bytes.specs.Elements.{IsCertificate, sequence}
-use Rattle.desk_bytes.specs.Parts.{Part, element_of}
+use Rattle.base.specs.Elements.{IsCertificate, sequence}
+use Rattle.base.specs.Parts.{Part, element_of}
 use Rattle.authenticode.specs.SignedData.{certificates_of}
 use Rattle.authenticode.specs.Walks.{Walks}
 

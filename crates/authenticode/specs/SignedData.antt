@@ -1,8 +1,8 @@
 -- SignedData (RFC 5652, section 5.1), up to its certificates. Tags are those of X.690, section 8.
 use Rattle.std.specs.Prelude.{ℕ, ◌==◌, List, [], Option, Some, None, if◌then◌else◌}
-use Rattle.desk_bytes.specs.Elements.{sequence}
-use Rattle.desk_bytes.specs.Parts.{Part, element_of}
-use Rattle.desk_bytes.specs.Lines.{begins_with}
+use Rattle.base.specs.Elements.{sequence}
+use Rattle.base.specs.Parts.{Part, element_of}
+use Rattle.base.specs.Lines.{begins_with}
 
 infixl 10 ◌>>=◌
 -- f of the value, if there is one

@@ -2,7 +2,7 @@
 -- little-endian, and offsets count from the front.
 use Rattle.std.specs.Prelude.{ℕ, ◌+◌, ◌*◌, ◌/◌, ◌==◌, ◌||◌, min, nat_lt, length, take, drop, List, Bool}
 use Rattle.std.specs.List.{list_all}
-use Rattle.desk_bytes.specs.Numbers.{u16_at, u32_at}
+use Rattle.base.specs.Numbers.{u16_at, u32_at}
 
 -- dwLength of the entry at the front: how many bytes it has, its header included
 abbrev pub length_at : List ℕ → ℕ

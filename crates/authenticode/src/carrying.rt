@@ -4,7 +4,7 @@ ghost use Rattle.authenticode.specs.Carried.{IsCarried, IsFirstFault};
 
 use crate::fault::CarriedFault;
 use crate::walk::push_table;
-use desk_bytes::{Digest, MOST_CERTIFICATES, arrange};
+use base::{Digest, MOST_CERTIFICATES, arrange};
 use std::alloc::Global;
 
 /// The SHA-256 of each TBSCertificate in the bytes of a certificate table, ascending, each once.

@@ -3,7 +3,7 @@ ghost use Rattle.std.specs.Prelude.{◌≡◌, ◌<◌, true, false, MatchOption
 ghost use Rattle.authenticode.specs.Table as spec;
 ghost use Rattle.authenticode.specs.Table.{body_at, has_no_entry, next_at, type_at};
 
-use desk_bytes::{u16_at, u32_at};
+use base::{u16_at, u32_at};
 
 /// WIN_CERT_TYPE_PKCS_SIGNED_DATA.
 pub(crate) const SIGNED_DATA: u16 = 2;

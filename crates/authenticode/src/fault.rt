@@ -2,7 +2,7 @@
 ghost use Rattle.std.specs.Prelude.{◌≡◌};
 ghost use Rattle.authenticode.specs.Faults.{not_der, refusal_of};
 
-use desk_bytes::{NotDer, Refusal};
+use base::{NotDer, Refusal};
 use thiserror::Error;
 
 /// Why a certificate table is refused.

@@ -7,7 +7,7 @@ ghost use Rattle.pe_image.specs.Sources.{HaveRisen, OnlyReads};
 ghost use Rattle.pe_image.specs.Spans.{EndWithin, bytes_at};
 ghost use Rattle.authenticode.specs.Hashing.{image_digest, padding_of, signed_bytes, signed_digest};
 
-use desk_bytes::Digest;
+use base::Digest;
 use pe_image::{Layout, PIECE, Ranges, ReadFailed, Source, Span, ranges, table};
 use sha2::{Digest as Hasher, Sha256};
 

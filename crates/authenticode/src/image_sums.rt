@@ -1,5 +1,5 @@
 //! The hashes of an image's file.
-use desk_bytes::Digest;
+use base::Digest;
 
 /// The hashes of an image: the SHA-256 of its file, its Authenticode digest, and the digest that a
 /// signature of it holds.

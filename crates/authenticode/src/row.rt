@@ -7,7 +7,7 @@ ghost use Rattle.authenticode.specs.Steps.Adding.{AddsStep, AddsAll};
 
 use crate::fault::CarriedFault;
 use crate::signed_data::{SEQUENCE, certificates};
-use desk_bytes::{Digest, element, tbs};
+use base::{Digest, element, tbs};
 use sha2::{Digest as _, Sha256};
 
 /// The SHA-256 of some bytes.

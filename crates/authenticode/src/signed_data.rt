@@ -1,9 +1,9 @@
 //! SignedData, up to its certificates (RFC 5652).
 ghost use Rattle.std.specs.Prelude.{◌≡◌, None, Some, MatchOption};
-ghost use Rattle.desk_bytes.specs.Parts.{part_of};
+ghost use Rattle.base.specs.Parts.{part_of};
 ghost use Rattle.authenticode.specs.SignedData as spec;
 
-use desk_bytes::{Element, element};
+use base::{Element, element};
 
 /// Tags of elements (X.690, section 8).
 const INTEGER: u8 = 0x02;

@@ -10,7 +10,7 @@ ghost use Rattle.authenticode.specs.Hashing.{bytes_between, image_digest, signed
 
 use crate::hashing::{feed_ranges, pad};
 use crate::image_sums::Sums;
-use desk_bytes::Digest;
+use base::Digest;
 use pe_image::{Layout, PIECE, ReadFailed, Source, first_pass, second_pass};
 use sha2::{Digest as Hasher, Sha256};
 

@@ -7,7 +7,7 @@ ghost use Rattle.authenticode.specs.Table as spec;
 use crate::entry::{SIGNED_DATA, is_end, next_entry};
 use crate::fault::CarriedFault;
 use crate::row::push_body;
-use desk_bytes::Digest;
+use base::Digest;
 
 /// Adds the digests of the entry at the front, and returns the bytes from the next entry on.
 fn push_entry<'a>(digests: &mut Vec<Digest>, table: &'a [u8]) -> Result<&'a [u8], CarriedFault>

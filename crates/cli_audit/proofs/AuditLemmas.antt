@@ -6,20 +6,20 @@ use Rattle.std.specs.Io.KnownBytes.{Appends, Keeps, prepend_known}
 use Rattle.std.specs.declared.io.buffered.BufReader.{BufReader}
 use Rattle.std.proofs.KnownBytes.{Keeps-refl, prepend_known-nil}
 use Rattle.std.proofs.lemmas.Option.{same_Some}
-use Rattle.memory_disk.proofs.CleanLemmas.{memory_is_clean}
-use Rattle.memory_disk.specs.Disks.{MemoryStore, over_memory}
-use Rattle.desk_audit.specs.Audits.{HasFollowed, IsWrongAt}
-use Rattle.desk_audit.specs.Faults.{IsCausedInMemory}
-use Rattle.desk_lines.specs.declared.lines.LineWatch.{LineWatch}
-use Rattle.desk_lines.specs.declared.auditing.AuditFault.{AuditFault}
-use Rattle.desk_lines.specs.declared.auditing.AuditFault.TheVariants.{Device, Line}
-use Rattle.desk_bytes.specs.Output.{AppendsBeginning}
-use Rattle.desk_bytes.specs.declared.refusal.Refusal.{Refusal}
-use Rattle.desk_bytes.specs.declared.refusal.Refusal.TheVariants as refusals
+use Rattle.store_memory.proofs.CleanLemmas.{memory_is_clean}
+use Rattle.store_memory.specs.Disks.{MemoryStore, over_memory}
+use Rattle.store_audit.specs.Audits.{HasFollowed, IsWrongAt}
+use Rattle.store_audit.specs.Faults.{IsCausedInMemory}
+use Rattle.store_minutes.specs.declared.lines.LineWatch.{LineWatch}
+use Rattle.store_minutes.specs.declared.auditing.AuditFault.{AuditFault}
+use Rattle.store_minutes.specs.declared.auditing.AuditFault.TheVariants.{Device, Line}
+use Rattle.base.specs.Output.{AppendsBeginning}
+use Rattle.base.specs.declared.refusal.Refusal.{Refusal}
+use Rattle.base.specs.declared.refusal.Refusal.TheVariants as refusals
 use Rattle.desk_exports.specs.declared.export.Export.{Export}
-use Rattle.desk_store.specs.declared.desk.Desk.{Desk}
-use Rattle.cli_lines.specs.Faults.{IsRow, row_of}
-use Rattle.cli_lines.specs.declared.fault.Fault.{Fault}
+use Rattle.store_desk.specs.declared.desk.Desk.{Desk}
+use Rattle.cli_output.specs.Faults.{IsRow, row_of}
+use Rattle.cli_output.specs.declared.fault.Fault.{Fault}
 use Rattle.cli_audit.specs.Audits.{AreNoMinutes, Audits, HasWritten, WritesCounted, WritesLast, audited}
 use Rattle.cli_audit.specs.Faults.{IsAuditRefusal, IsAuditRow, of_audit, wrong_line}
 

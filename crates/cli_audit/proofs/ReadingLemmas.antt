@@ -3,12 +3,12 @@ use Rattle.std.proofs.Common.{◌≡◌, ◌≢◌, Result, Ok, Err, ap, arith, 
 use Rattle.sqlite.specs.Held.{state}
 use Rattle.sqlite.specs.State.{HasCleanDisk}
 use Rattle.sqlite.specs.Store.{Ghosts}
-use Rattle.desk_bytes.specs.declared.refusal.Refusal.{Refusal}
-use Rattle.desk_bytes.specs.declared.refusal.Refusal.TheVariants as refusals
+use Rattle.base.specs.declared.refusal.Refusal.{Refusal}
+use Rattle.base.specs.declared.refusal.Refusal.TheVariants as refusals
 use Rattle.store_schema.specs.rows.Histories.{LeavesHistory}
-use Rattle.desk_store.specs.Desks.{ForEachShown, KeepsDesk}
-use Rattle.desk_store.specs.Exports.{SparesDesk}
-use Rattle.desk_store.specs.declared.desk.Desk.{Desk}
+use Rattle.store_desk.specs.Desks.{ForEachShown, KeepsDesk}
+use Rattle.store_desk.specs.Exports.{SparesDesk}
+use Rattle.store_desk.specs.declared.desk.Desk.{Desk}
 
 module _ {S : Type 0} (g : Ghosts S) where
   -- a stop leaves what it showed

@@ -3,14 +3,14 @@ use Rattle.std.proofs.Common.{◌≡◌, ℕ, List, length, Option, Result, Ok, 
 use Rattle.std.specs.Io.KnownBytes.{Appends, Keeps}
 use Rattle.sqlite.specs.Store.{Ghosts}
 use Rattle.std.proofs.KnownBytes.{Appends-kept, Appends-nil}
-use Rattle.desk_bytes.proofs.OutputLemmas.{AppendsBeginning-none}
-use Rattle.desk_bytes.specs.Output.{AppendsBeginning}
+use Rattle.base.proofs.OutputLemmas.{AppendsBeginning-none}
+use Rattle.base.specs.Output.{AppendsBeginning}
 use Rattle.desk_history.specs.Calls.{History}
-use Rattle.desk_store.specs.Desks.{ForEachShown}
-use Rattle.desk_store.specs.Exports.{Writes, WritesBeginning}
-use Rattle.desk_store.specs.declared.desk.Desk.{Desk}
-use Rattle.cli_lines.proofs.LineLemmas.{Appends-same, AppendsBeginning-either, AppendsBeginning-same}
-use Rattle.cli_lines.specs.declared.fault.Fault.{Fault}
+use Rattle.store_desk.specs.Desks.{ForEachShown}
+use Rattle.store_desk.specs.Exports.{Writes, WritesBeginning}
+use Rattle.store_desk.specs.declared.desk.Desk.{Desk}
+use Rattle.cli_output.proofs.LineLemmas.{Appends-same, AppendsBeginning-either, AppendsBeginning-same}
+use Rattle.cli_output.specs.declared.fault.Fault.{Fault}
 use Rattle.cli_audit.specs.Audits.{WritesCounted}
 use Rattle.cli_audit.specs.Lines.{audit_lines, told_lines, told_of}
 use Rattle.cli_audit.specs.declared.summary.Summary.{Summary}

@@ -4,21 +4,21 @@ use Rattle.std.specs.Prelude.{IfErr, IfSome, OnErr, OnOk}
 use Rattle.std.specs.Io.KnownBytes.{Appends, Keeps}
 use Rattle.sqlite.specs.Held.{state}
 use Rattle.sqlite.specs.State.{HasCleanDisk}
-use Rattle.memory_disk.specs.Disks.{MemoryStore, over_memory}
+use Rattle.store_memory.specs.Disks.{MemoryStore, over_memory}
 use Rattle.sqlite.specs.Store.{Ghosts}
-use Rattle.desk_bytes.specs.Output.{AppendsBeginning}
+use Rattle.base.specs.Output.{AppendsBeginning}
 use Rattle.desk_history.specs.Calls.{History}
 use Rattle.desk_history.specs.Formed.{IsHistory}
 use Rattle.desk_exports.specs.Exports.{exported, minutes_text}
 use Rattle.desk_exports.specs.declared.export.Export.{Export}
-use Rattle.desk_store.specs.Desks.{ForEachShown}
-use Rattle.desk_store.specs.Exports.{Writes, WritesBeginning}
-use Rattle.desk_store.specs.declared.desk.Desk.{Desk}
-use Rattle.desk_audit.specs.Audits.{HasFollowed, IsWrongAt}
-use Rattle.desk_bytes.specs.declared.refusal.Refusal.TheVariants as refusals
-use Rattle.cli_lines.specs.Faults.{row_of}
-use Rattle.cli_lines.specs.declared.fault.Fault.{Fault}
-use Rattle.desk_lines.specs.declared.lines.LineWatch.{LineWatch}
+use Rattle.store_desk.specs.Desks.{ForEachShown}
+use Rattle.store_desk.specs.Exports.{Writes, WritesBeginning}
+use Rattle.store_desk.specs.declared.desk.Desk.{Desk}
+use Rattle.store_audit.specs.Audits.{HasFollowed, IsWrongAt}
+use Rattle.base.specs.declared.refusal.Refusal.TheVariants as refusals
+use Rattle.cli_output.specs.Faults.{row_of}
+use Rattle.cli_output.specs.declared.fault.Fault.{Fault}
+use Rattle.store_minutes.specs.declared.lines.LineWatch.{LineWatch}
 use Rattle.cli_audit.specs.Faults.{IsAuditRow, wrong_line}
 use Rattle.cli_audit.specs.Lines.{audit_lines}
 

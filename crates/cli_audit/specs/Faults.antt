@@ -1,13 +1,13 @@
 -- The rows of the table of refusals for an audit.
 use Rattle.std.specs.Prelude.{◌≡◌, ◌⊎◌, ℕ, Some}
-use Rattle.desk_lines.specs.declared.auditing.AuditFault.{AuditFault}
-use Rattle.desk_lines.specs.declared.auditing.AuditFault.TheVariants.{Device, Line}
-use Rattle.desk_lines.specs.Watches.{IsReadFault}
-use Rattle.desk_lines.specs.declared.lines.LineWatch.{LineWatch}
-use Rattle.desk_bytes.specs.declared.refusal.Refusal.{Refusal}
-use Rattle.desk_bytes.specs.declared.refusal.Refusal.TheVariants as refusals
-use Rattle.cli_lines.specs.Faults.{IsFileRefusal, IsRow, row_of}
-use Rattle.cli_lines.specs.declared.fault.Fault.{Fault}
+use Rattle.store_minutes.specs.declared.auditing.AuditFault.{AuditFault}
+use Rattle.store_minutes.specs.declared.auditing.AuditFault.TheVariants.{Device, Line}
+use Rattle.store_minutes.specs.Watches.{IsReadFault}
+use Rattle.store_minutes.specs.declared.lines.LineWatch.{LineWatch}
+use Rattle.base.specs.declared.refusal.Refusal.{Refusal}
+use Rattle.base.specs.declared.refusal.Refusal.TheVariants as refusals
+use Rattle.cli_output.specs.Faults.{IsFileRefusal, IsRow, row_of}
+use Rattle.cli_output.specs.declared.fault.Fault.{Fault}
 
 -- own: the row of a line of minutes that is wrong, by its number
 abbrev pub wrong_line : ℕ → Fault

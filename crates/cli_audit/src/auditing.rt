@@ -1,17 +1,17 @@
 //! Minutes of an input, followed in memory.
 ghost use Rattle.std.specs.Prelude.{◌⊎◌, IfErr, IsErrAnd, OnOk};
 ghost use Rattle.std.specs.Io.KnownBytes.{Keeps};
-ghost use Rattle.cli_lines.specs.Faults.{IsRow};
+ghost use Rattle.cli_output.specs.Faults.{IsRow};
 ghost use Rattle.cli_audit.specs.Audits.{Audits};
 ghost use Rattle.cli_audit.specs.Faults.{IsUnopenedRefusal};
 
-use crate::fault::{row, row_in_memory};
+use crate::fault::{fault_row, row_in_memory};
 use crate::writing::write_last;
-use cli_lines::{Buffered, Fault, open_file};
-use desk_audit::{Audited, audit};
-use desk_bytes::{Guid, Refusal};
+use cli_output::{Buffered, Fault, open_file};
+use store_audit::{Audited, audit};
+use base::{Guid, Refusal};
 use desk_exports::Export;
-use desk_lines::LineWatch;
+use store_minutes::LineWatch;
 use std::alloc::Global;
 use std::io::{BufRead, BufReader, Read};
 use std::rt::Files;
@@ -37,7 +37,7 @@ fn audit_reader<R: BufRead, W: Buffered>(
                 Err(fault) => Err(row_in_memory(fault)),
             }
         }
-        Err(fault) => Err(row(fault)),
+        Err(fault) => Err(fault_row(fault)),
     }
 }
 

@@ -5,15 +5,15 @@ ghost use Rattle.sqlite.specs.Held.{state};
 ghost use Rattle.sqlite.specs.State.{HasCleanDisk};
 ghost use Rattle.desk_exports.specs.Exports.{exported};
 ghost use Rattle.store_schema.specs.rows.Histories.{LeavesHistory};
-ghost use Rattle.desk_store.specs.Desks.{ForEachShown, KeepsDesk};
+ghost use Rattle.store_desk.specs.Desks.{ForEachShown, KeepsDesk};
 ghost use Rattle.cli_commands.specs.Faults.{IsWritingRefusal};
 ghost use Rattle.cli_audit.specs.Lines.{told_of};
 
 use crate::hashing::Hashing;
 use crate::summary::Summary;
-use desk_bytes::{Digest, Refusal};
+use base::{Digest, Refusal};
 use desk_exports::Export;
-use desk_store::Desk;
+use store_desk::Desk;
 use sqlite::Alter;
 
 /// The SHA-256 of an export of the desk, which doesn't change. The bytes are hashed as the desk
@@ -41,7 +41,7 @@ fn digest_of<S: Alter + Drop>(desk: &mut Desk<S>, what: Export) -> Result<Digest
 /// memory for one row.
 ///
 /// `NoMemory`, `Store`, `Reopen`: as for `digest_of`.
-pub(crate) fn told<S: Alter + Drop>(desk: &mut Desk<S>, calls: u64) -> Result<Summary, Refusal>
+pub(crate) fn summary_of<S: Alter + Drop>(desk: &mut Desk<S>, calls: u64) -> Result<Summary, Refusal>
     ensures exact { HasCleanDisk (state S.Store desk.new.conn) → IfOk result (λ told.
         ForEachShown S.Store desk.old (λ owner cs. length cs ≡ calls
         → told ≡ told_of owner cs)) }

@@ -1,18 +1,18 @@
 //! The rows of the table of refusals for an audit.
 ghost use Rattle.std.specs.Prelude.{◌≡◌};
-ghost use Rattle.desk_lines.specs.declared.lines.LineWatch.{LineWatch};
+ghost use Rattle.store_minutes.specs.declared.lines.LineWatch.{LineWatch};
 ghost use Rattle.cli_commands.specs.Faults.{IsWritingRefusal};
-ghost use Rattle.desk_bytes.specs.declared.refusal.Refusal.TheVariants as refusals;
-ghost use Rattle.cli_lines.specs.Faults.{IsRow, row_of};
+ghost use Rattle.base.specs.declared.refusal.Refusal.TheVariants as refusals;
+ghost use Rattle.cli_output.specs.Faults.{IsRow, row_of};
 ghost use Rattle.cli_audit.specs.Faults.{IsAuditRefusal, of_audit};
 
-use cli_lines::Fault;
-use desk_audit::in_memory;
-use desk_bytes::Refusal;
-use desk_lines::AuditFault;
+use cli_output::Fault;
+use store_audit::in_memory;
+use base::Refusal;
+use store_minutes::AuditFault;
 
 /// The row for minutes that aren't those of a desk, or aren't followed.
-pub fn row(fault: AuditFault) -> Fault
+pub fn fault_row(fault: AuditFault) -> Fault
     ensures { result ≡ of_audit fault }
 {
     match fault {

@@ -6,7 +6,7 @@ ghost use Rattle.sha2.specs.Hashers.{Holds256};
 ghost use Rattle.sha2.specs.Sha256.{sha256};
 
 use crate::fed::Fed;
-use desk_bytes::Digest;
+use base::Digest;
 use sha2::{Digest as _, Sha256};
 use std::io;
 use std::io::Write;

@@ -1,8 +1,8 @@
 //! The subcommand `audit`, as it runs: what it prints goes through a buffer to the standard output.
 //! It has no clauses: the checks run it.
 use crate::{LineWatch, audit_file, audit_input};
-use cli_lines::{Buffered, Ending, Fault, Outcome};
-use desk_bytes::{Guid, Refusal};
+use cli_output::{Buffered, Ending, Fault, WorkOutcome};
+use base::{Guid, Refusal};
 use desk_exports::Export;
 use std::io::BufWriter;
 
@@ -29,7 +29,7 @@ pub fn run_audit(rt: &HostRuntime, owner: &Guid, file: &str, what: Option<Export
     };
     match audit_named(rt, owner, file, what, &mut out) {
         Ok(()) => Ending {
-            work: Ok(Outcome::Done),
+            work: Ok(WorkOutcome::Done),
             closing: None,
         },
         Err(fault) => Ending {

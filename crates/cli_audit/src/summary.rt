@@ -1,10 +1,10 @@
 //! The lines of an audit.
 ghost use Rattle.std.specs.Prelude.{OnErr, OnOk};
 ghost use Rattle.std.specs.Io.KnownBytes.{Appends};
-ghost use Rattle.desk_bytes.specs.Output.{AppendsBeginning};
+ghost use Rattle.base.specs.Output.{AppendsBeginning};
 ghost use Rattle.cli_audit.specs.Lines.{told_lines};
 
-use desk_bytes::{Digest, WriteFailed, put_each};
+use base::{Digest, WriteFailed, put_each};
 use itoa::Buffer;
 use std::io::Write;
 

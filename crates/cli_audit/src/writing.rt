@@ -3,21 +3,21 @@ ghost use Rattle.std.specs.Prelude.{◌≡◌, ◌≢◌, Err, None, IfErr, OnEr
 ghost use Rattle.std.specs.Io.KnownBytes.{Appends};
 ghost use Rattle.sqlite.specs.Held.{state};
 ghost use Rattle.sqlite.specs.State.{HasCleanDisk};
-ghost use Rattle.desk_bytes.specs.Output.{AppendsBeginning};
-ghost use Rattle.desk_bytes.specs.declared.refusal.Refusal.TheVariants as refusals;
+ghost use Rattle.base.specs.Output.{AppendsBeginning};
+ghost use Rattle.base.specs.declared.refusal.Refusal.TheVariants as refusals;
 ghost use Rattle.store_schema.specs.rows.Histories.{LeavesHistory};
-ghost use Rattle.desk_store.specs.Desks.{ForEachShown, KeepsDesk};
+ghost use Rattle.store_desk.specs.Desks.{ForEachShown, KeepsDesk};
 ghost use Rattle.cli_commands.specs.Faults.{IsWritingRefusal};
-ghost use Rattle.cli_lines.specs.Faults.{IsRow, row_of};
+ghost use Rattle.cli_output.specs.Faults.{IsRow, row_of};
 ghost use Rattle.cli_audit.specs.Audits.{WritesCounted, WritesLast, audited};
 ghost use Rattle.cli_audit.specs.Lines.{audit_lines, told_lines};
 
-use crate::digests::told;
+use crate::digests::summary_of;
 use crate::summary::{Summary, put_told};
 use cli_commands::write_export;
-use cli_lines::{Buffered, Fault};
+use cli_output::{Buffered, Fault};
 use desk_exports::Export;
-use desk_store::Desk;
+use store_desk::Desk;
 use sqlite::Alter;
 
 /// Writes the lines of an audit, and flushes the writer.
@@ -57,7 +57,7 @@ pub fn say_told<S: Alter + Drop, W: Buffered>(
     ensures clean { HasCleanDisk (state S.Store desk.new.conn)
         → HasCleanDisk (state S.Store desk.old.conn) }
 {
-    match told(desk, calls) {
+    match summary_of(desk, calls) {
         Ok(told) => say(&told, writer),
         Err(refusal) => Err(Fault::from(refusal)),
     }

@@ -1,9 +1,9 @@
 -- The fault for a refusal of the desk: its row of the table, without a place.
 use Rattle.std.proofs.Common.{◌≡◌, ◌≢◌, ◌⊎◌, ◌∙◌, Result, Err, inl, inr, sym, ap}
-use Rattle.desk_bytes.specs.declared.refusal.Refusal.{Refusal}
-use Rattle.desk_bytes.specs.declared.refusal.Refusal.TheVariants as refusals
-use Rattle.cli_lines.specs.Faults.{row_of}
-use Rattle.cli_lines.specs.declared.fault.Fault.{Fault}
+use Rattle.base.specs.declared.refusal.Refusal.{Refusal}
+use Rattle.base.specs.declared.refusal.Refusal.TheVariants as refusals
+use Rattle.cli_output.specs.Faults.{row_of}
+use Rattle.cli_output.specs.declared.fault.Fault.{Fault}
 
 module _ {T U : Type 0} (fault : Fault) (refusal : Refusal) (is : fault ≡ row_of refusal) where
   -- the fault for Reopen is that of Reopen

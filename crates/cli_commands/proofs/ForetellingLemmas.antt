@@ -2,16 +2,16 @@
 use Rattle.std.proofs.Common.{◌≡◌, ◌∙◌, ℕ, Bool, List, [], ◌∷◌, ◌++◌, map, Result, Ok, Err, ap, refl, inl, inr, true, false}
 use Rattle.std.specs.Prelude.{◌||◌, MatchResult, if◌then◌else◌}
 use Rattle.std.specs.List.{flat_map, list_any}
-use Rattle.desk_bytes.specs.declared.refusal.Refusal.{Refusal}
+use Rattle.base.specs.declared.refusal.Refusal.{Refusal}
 use Rattle.desk_history.specs.Impact.{Impact, NewlyBarred}
 use Rattle.desk_history.specs.ImpactShown.{ShowsImpact, shown_barred}
 use Rattle.desk_history.specs.declared.impact.BarredImage.{BarredImage}
 use Rattle.desk_history.specs.declared.impact.ShownImpact.{ShownImpact}
-use Rattle.cli_lines.specs.ImpactLines.{barred_line, dbx_line, impact_lines}
-use Rattle.cli_lines.specs.declared.ending.Outcome.{Outcome}
-use Rattle.cli_lines.specs.declared.ending.Outcome.TheVariants.{Done, Refused}
-use Rattle.desk_bytes.specs.declared.refusal.Refusal.TheVariants as refusals
-use Rattle.desk_store.specs.Impacts.{IsImpactRefusal}
+use Rattle.cli_output.specs.ImpactLines.{barred_line, dbx_line, impact_lines}
+use Rattle.cli_output.specs.declared.ending.WorkOutcome.{WorkOutcome}
+use Rattle.cli_output.specs.declared.ending.WorkOutcome.TheVariants.{Done, Refused}
+use Rattle.base.specs.declared.refusal.Refusal.TheVariants as refusals
+use Rattle.store_desk.specs.Impacts.{IsImpactRefusal}
 use Rattle.cli_commands.specs.Faults.{IsForetellingRefusal}
 use Rattle.cli_commands.specs.Works.{impact_outcome, lines_of_impact, shown_outcome}
 
@@ -33,10 +33,10 @@ any_allowed [] = refl
 any_allowed (b ∷ bs) = ap (λ (t : Bool). b.allowed || t) (any_allowed bs)
 
 -- the outcome of what is shown
-abbrev outcome_by : Bool → Outcome
+abbrev outcome_by : Bool → WorkOutcome
 outcome_by any = if any then Refused else Done
 
-pub due_outcome : (due : Result Impact Refusal) (shown : ShownImpact) (outcome : Outcome) → MatchResult due (λ w. ShowsImpact w shown) (λ _. ⊥)
+pub due_outcome : (due : Result Impact Refusal) (shown : ShownImpact) (outcome : WorkOutcome) → MatchResult due (λ w. ShowsImpact w shown) (λ _. ⊥)
     → outcome ≡ shown_outcome shown
     → (w : Impact) × (due ≡ Ok w) × (outcome ≡ impact_outcome w)
 due_outcome (Ok w) shown outcome is told =

@@ -3,10 +3,10 @@ use Rattle.std.proofs.Common.{◌≡◌, ℕ, List, length, Option, Result, Ok, 
 use Rattle.std.specs.Io.KnownBytes.{Appends, Keeps}
 use Rattle.std.proofs.KnownBytes.{Appends-kept, Appends-nil}
 use Rattle.std.proofs.lemmas.List.{take_all}
-use Rattle.desk_bytes.proofs.OutputLemmas.{AppendsBeginning-none}
-use Rattle.desk_bytes.specs.Output.{AppendsBeginning}
+use Rattle.base.proofs.OutputLemmas.{AppendsBeginning-none}
+use Rattle.base.specs.Output.{AppendsBeginning}
 use Rattle.desk_history.specs.Calls.{History}
-use Rattle.cli_lines.proofs.LineLemmas.{AppendsBeginning-same}
+use Rattle.cli_output.proofs.LineLemmas.{AppendsBeginning-same}
 
 -- all of it is a beginning
 pub whole_kept : (a b c : Option (List ℕ)) (xs : List ℕ) → Appends a b xs → Keeps b c → AppendsBeginning a c xs

@@ -1,9 +1,9 @@
 -- The faults of a subcommand on an open desk.
 use Rattle.std.specs.Prelude.{◌≡◌, ◌⊎◌}
-use Rattle.desk_bytes.specs.declared.refusal.Refusal.{Refusal}
-use Rattle.desk_bytes.specs.declared.refusal.Refusal.TheVariants as refusals
-use Rattle.desk_store.specs.Desks.{IsCallRefusal}
-use Rattle.desk_store.specs.Impacts.{IsImpactRefusal}
+use Rattle.base.specs.declared.refusal.Refusal.{Refusal}
+use Rattle.base.specs.declared.refusal.Refusal.TheVariants as refusals
+use Rattle.store_desk.specs.Desks.{IsCallRefusal}
+use Rattle.store_desk.specs.Impacts.{IsImpactRefusal}
 use Rattle.store_exports.specs.Faults.{IsExportFailure}
 
 -- the refusals that stop a call of the console, or its line

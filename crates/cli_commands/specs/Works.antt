@@ -1,24 +1,24 @@
 -- The lines of a subcommand over a desk's file, and the outcomes of its work.
 use Rattle.std.specs.Prelude.{◌≡◌, ◌⊎◌, ℕ, List, [], ◌++◌, Option, None, Some, Result, Ok, Err, codes, if◌then◌else◌, map}
 use Rattle.std.specs.List.{flat_map, list_any}
-use Rattle.desk_bytes.specs.declared.refusal.Refusal.{Refusal}
-use Rattle.desk_texts.specs.declared.caller.Caller.TheVariants as callers
+use Rattle.base.specs.declared.refusal.Refusal.{Refusal}
+use Rattle.desk_types.specs.declared.caller.Caller.TheVariants as callers
 use Rattle.desk_history.specs.Impact.{Impact}
 use Rattle.desk_history.specs.ImpactShown.{impact_for, shown_barred}
 use Rattle.desk_history.specs.declared.impact.ShownImpact.{ShownImpact}
-use Rattle.cli_lines.specs.ImpactLines.{barred_line, dbx_line}
+use Rattle.cli_output.specs.ImpactLines.{barred_line, dbx_line}
 use Rattle.desk_history.specs.Calls.{History}
 use Rattle.desk_history.specs.Runs.{answer, next, reply_in}
 use Rattle.desk_history.specs.declared.finding.Verdict.{Verdict}
 use Rattle.desk_history.specs.declared.finding.Verdict.TheVariants.{Allowed, DbxCertificate, DbxDigest, NotListed, Sbat}
-use Rattle.desk_texts.specs.ReplyTexts.{reply_text_of}
-use Rattle.desk_texts.specs.declared.command.Call.{Call}
-use Rattle.desk_texts.specs.declared.reply.Reply.{Reply}
+use Rattle.desk_types.specs.ReplyTexts.{reply_text_of}
+use Rattle.desk_types.specs.declared.command.Call.{Call}
+use Rattle.desk_types.specs.declared.reply.Reply.{Reply}
 use Rattle.sqlite.specs.Store.{Ghosts}
-use Rattle.desk_store.specs.Desks.{ForEachShown, ShowsDesk}
-use Rattle.desk_store.specs.declared.desk.Desk.{Desk}
-use Rattle.cli_lines.specs.declared.ending.Outcome.{Outcome}
-use Rattle.cli_lines.specs.declared.ending.Outcome.TheVariants.{Done, Refused}
+use Rattle.store_desk.specs.Desks.{ForEachShown, ShowsDesk}
+use Rattle.store_desk.specs.declared.desk.Desk.{Desk}
+use Rattle.cli_output.specs.declared.ending.WorkOutcome.{WorkOutcome}
+use Rattle.cli_output.specs.declared.ending.WorkOutcome.TheVariants.{Done, Refused}
 
 -- a text and LF
 abbrev pub line_of : List ℕ → List ℕ
@@ -43,7 +43,7 @@ abbrev pub MayHaveAnswered : {S : Type 0} → Ghosts S → Desk S → Desk S →
 MayHaveAnswered g old new c = ForEachShown g old (λ owner cs. ShowsDesk g new owner cs ⊎ ShowsDesk g new owner (next cs c))
 
 -- own: every verdict except `allowed` refuses the image
-abbrev pub outcome_of : Verdict → Outcome
+abbrev pub outcome_of : Verdict → WorkOutcome
 outcome_of Allowed = Done
 outcome_of DbxDigest = Refused
 outcome_of DbxCertificate = Refused
@@ -51,11 +51,11 @@ outcome_of NotListed = Refused
 outcome_of (Sbat below) = Refused
 
 -- own: the impact refuses the Confirm if it would bar an image that is allowed now
-abbrev pub impact_outcome : Impact → Outcome
+abbrev pub impact_outcome : Impact → WorkOutcome
 impact_outcome w = if list_any (λ b. b.allowed) w.bars then Refused else Done
 
 -- the same of an impact as it is shown
-abbrev pub shown_outcome : ShownImpact → Outcome
+abbrev pub shown_outcome : ShownImpact → WorkOutcome
 shown_outcome shown = if list_any (λ b. b.is_allowed) shown.bars.items then Refused else Done
 
 -- the lines of an impact, or none if it is refused
@@ -68,7 +68,7 @@ abbrev pub foretold_lines : ℕ → List ℕ → History → List ℕ
 foretold_lines k owner cs = lines_of_impact (impact_for cs callers.Console k)
 
 -- the impact of the proposal has this outcome
-abbrev pub Foretells : ℕ → Outcome → List ℕ → History → Type 0
+abbrev pub Foretells : ℕ → WorkOutcome → List ℕ → History → Type 0
 Foretells k outcome owner cs = (w : Impact) × (impact_for cs callers.Console k ≡ Ok w) × (outcome ≡ impact_outcome w)
 
 -- it is refused so

@@ -4,19 +4,19 @@ ghost use Rattle.std.specs.Io.KnownBytes.{Appends};
 ghost use Rattle.std.specs.List.{list_any};
 ghost use Rattle.sqlite.specs.Held.{state};
 ghost use Rattle.sqlite.specs.State.{HasCleanDisk};
-ghost use Rattle.desk_bytes.specs.Output.{AppendsBeginning};
-ghost use Rattle.desk_bytes.specs.declared.refusal.Refusal.TheVariants as refusals;
-ghost use Rattle.cli_lines.specs.Faults.{IsRow, row_of};
-ghost use Rattle.cli_lines.specs.ImpactLines.{impact_lines};
-ghost use Rattle.desk_store.specs.Desks.{ForEachShown, KeepsDesk};
-ghost use Rattle.desk_store.specs.Exports.{SparesDesk, Writes, WritesBeginning};
+ghost use Rattle.base.specs.Output.{AppendsBeginning};
+ghost use Rattle.base.specs.declared.refusal.Refusal.TheVariants as refusals;
+ghost use Rattle.cli_output.specs.Faults.{IsRow, row_of};
+ghost use Rattle.cli_output.specs.ImpactLines.{impact_lines};
+ghost use Rattle.store_desk.specs.Desks.{ForEachShown, KeepsDesk};
+ghost use Rattle.store_desk.specs.Exports.{SparesDesk, Writes, WritesBeginning};
 ghost use Rattle.cli_commands.specs.Faults.{IsForetellingRefusal};
 ghost use Rattle.cli_commands.specs.Works.{Foretells, RefusesImpact, foretold_lines, shown_outcome};
 
-use cli_lines::{Buffered, Fault, Outcome, print_impact};
+use cli_output::{Buffered, Fault, WorkOutcome, print_impact};
 use desk_history::ShownImpact;
-use desk_store::Desk;
-use desk_texts::{Caller, ProposalNumber};
+use store_desk::Desk;
+use desk_types::{Caller, ProposalNumber};
 use sqlite::Alter;
 
 /// True if the impact has an image that is allowed now.
@@ -27,13 +27,13 @@ fn bars_allowed(impact: &ShownImpact) -> bool
 }
 
 /// The outcome of a subcommand for an impact.
-fn outcome(impact: &ShownImpact) -> Outcome
+fn outcome(impact: &ShownImpact) -> WorkOutcome
     ensures { result ≡ shown_outcome impact.now }
 {
     if bars_allowed(impact) {
-        Outcome::Refused
+        WorkOutcome::Refused
     } else {
-        Outcome::Done
+        WorkOutcome::Done
     }
 }
 
@@ -62,7 +62,7 @@ pub fn foretell<S: Alter + Drop, W: Buffered>(
     desk: &mut Desk<S>,
     number: ProposalNumber,
     writer: &mut W,
-) -> Result<Outcome, Fault>
+) -> Result<WorkOutcome, Fault>
     ensures ok { HasCleanDisk (state S.Store desk.new.conn) → OnOk result
         (ForEachShown S.Store desk.old
         (Writes (W.contents writer.old) (W.contents writer.new) (foretold_lines number))) }

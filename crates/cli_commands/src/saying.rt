@@ -1,15 +1,15 @@
 //! The lines that subcommands write, each whole before anything else happens.
 ghost use Rattle.std.specs.Prelude.{◌≡◌, ◌≢◌, ◌⊎◌, IfErr, IfOk, OnErr, OnOk};
 ghost use Rattle.std.specs.Io.KnownBytes.{Appends};
-ghost use Rattle.desk_bytes.specs.Output.{AppendsBeginning};
-ghost use Rattle.cli_lines.specs.Faults.{row_of};
-ghost use Rattle.cli_lines.specs.VerdictLines.{verdict_line};
+ghost use Rattle.base.specs.Output.{AppendsBeginning};
+ghost use Rattle.cli_output.specs.Faults.{row_of};
+ghost use Rattle.cli_output.specs.VerdictLines.{verdict_line};
 ghost use Rattle.cli_commands.specs.Works.{outcome_of, reply_line};
 
-use cli_lines::{Buffered, Fault, Outcome, print_verdict};
-use desk_bytes::{Refusal, put_each};
+use cli_output::{Buffered, Fault, WorkOutcome, print_verdict};
+use base::{Refusal, put_each};
 use desk_history::Verdict;
-use desk_texts::{Facts, Reply, reply_text};
+use desk_types::{Facts, Reply, reply_text};
 use std::alloc::Global;
 
 /// Writes the reply's text and LF.
@@ -37,13 +37,13 @@ pub(crate) fn say_reply<W: Buffered>(
 }
 
 /// The outcome of a subcommand for a verdict.
-fn outcome(said: &Verdict) -> Outcome
+fn outcome(said: &Verdict) -> WorkOutcome
     ensures { result ≡ outcome_of said.now }
 {
     match said {
-        Verdict::Allowed => Outcome::Done,
-        Verdict::DbxDigest | Verdict::DbxCertificate | Verdict::NotListed => Outcome::Refused,
-        Verdict::Sbat(_) => Outcome::Refused,
+        Verdict::Allowed => WorkOutcome::Done,
+        Verdict::DbxDigest | Verdict::DbxCertificate | Verdict::NotListed => WorkOutcome::Refused,
+        Verdict::Sbat(_) => WorkOutcome::Refused,
     }
 }
 
@@ -52,7 +52,7 @@ pub(crate) fn say_verdict<W: Buffered>(
     said: &Verdict,
     found: &Facts,
     writer: &mut W,
-) -> Result<Outcome, Fault>
+) -> Result<WorkOutcome, Fault>
     ensures ok { OnOk result (Appends (W.contents writer.old) (W.contents writer.new)
         (verdict_line said.now found.now)) }
     ensures flushed { OnOk result (W.flushed writer.new) }

@@ -3,26 +3,26 @@ ghost use Rattle.std.specs.Prelude.{◌≡◌, ◌≢◌, Err, IfErr, IfOk, IsEr
 ghost use Rattle.std.specs.Io.KnownBytes.{Appends};
 ghost use Rattle.sqlite.specs.Held.{state};
 ghost use Rattle.sqlite.specs.State.{HasCleanDisk};
-ghost use Rattle.desk_bytes.specs.declared.refusal.Refusal.TheVariants as refusals;
+ghost use Rattle.base.specs.declared.refusal.Refusal.TheVariants as refusals;
 ghost use Rattle.desk_exports.specs.Exports.{exported};
 ghost use Rattle.desk_history.specs.Verdicts as verdicts;
 ghost use Rattle.desk_history.specs.declared.finding.Verdict.{Verdict};
-ghost use Rattle.cli_lines.specs.Faults.{IsRow, row_of};
-ghost use Rattle.cli_lines.specs.VerdictLines.{verdict_line};
+ghost use Rattle.cli_output.specs.Faults.{IsRow, row_of};
+ghost use Rattle.cli_output.specs.VerdictLines.{verdict_line};
 ghost use Rattle.desk_history.specs.Called.{called};
 ghost use Rattle.store_sql.specs.States.{Spares};
-ghost use Rattle.desk_store.specs.Desks.{CommitsOnlyAccepted, ForEachShown, KeepsDesk};
-ghost use Rattle.desk_store.specs.Desks.{MayStop, Refuses, Replies};
-ghost use Rattle.desk_store.specs.Exports.{SparesDesk, Writes, WritesBeginning};
-ghost use Rattle.desk_texts.specs.declared.reply.Reply.{Reply};
+ghost use Rattle.store_desk.specs.Desks.{CommitsOnlyAccepted, ForEachShown, KeepsDesk};
+ghost use Rattle.store_desk.specs.Desks.{MayStop, Refuses, Replies};
+ghost use Rattle.store_desk.specs.Exports.{SparesDesk, Writes, WritesBeginning};
+ghost use Rattle.desk_types.specs.declared.reply.Reply.{Reply};
 ghost use Rattle.cli_commands.specs.Faults.{IsAddingRefusal, IsWritingRefusal};
 ghost use Rattle.cli_commands.specs.Works.{MayHaveAnswered, answer_line, outcome_of, reply_line};
 
 use crate::saying::{say_reply, say_verdict};
-use cli_lines::{Buffered, Fault, Outcome};
+use cli_output::{Buffered, Fault, WorkOutcome};
 use desk_exports::Export;
-use desk_store::Desk;
-use desk_texts::{Caller, Command, Facts, Key, Person};
+use store_desk::Desk;
+use desk_types::{Caller, Command, Facts, Key, Person};
 use sqlite::Alter;
 use std::alloc::Global;
 
@@ -35,12 +35,12 @@ pub fn add<S: Alter + Drop, W: Buffered>(
     key: &Key,
     person: Person,
     writer: &mut W,
-) -> Result<Outcome, Fault>
+) -> Result<WorkOutcome, Fault>
     ensures told { HasCleanDisk (state S.Store desk.new.conn) → OnOk result ((reply : Reply)
         × Replies S.Store desk.old desk.new
         (called Caller.Console key.now (Command.AddPerson person)) reply
         × Appends (W.contents writer.old) (W.contents writer.new) (reply_line reply)) }
-    ensures done { IfOk result (λ outcome. outcome ≡ Outcome.Done) }
+    ensures done { IfOk result (λ outcome. outcome ≡ WorkOutcome.Done) }
     ensures flushed { OnOk result (W.flushed writer.new) }
 
     ensures beginning { HasCleanDisk (state S.Store desk.new.conn) → OnErr result
@@ -76,7 +76,7 @@ pub fn add<S: Alter + Drop, W: Buffered>(
         Err(refused) => return Err(Fault::from(refused)),
     };
     match say_reply(alloc, &reply, writer) {
-        Ok(()) => Ok(Outcome::Done),
+        Ok(()) => Ok(WorkOutcome::Done),
         Err(fault) => Err(fault),
     }
 }
@@ -87,7 +87,7 @@ pub fn judge<S: Alter + Drop, W: Buffered>(
     desk: &mut Desk<S>,
     found: &Facts,
     writer: &mut W,
-) -> Result<Outcome, Fault>
+) -> Result<WorkOutcome, Fault>
     ensures told { IfOk result (λ outcome. (said : Verdict) × (outcome ≡ outcome_of said)
         × Appends (W.contents writer.old) (W.contents writer.new) (verdict_line said found.now)
         × (HasCleanDisk (state S.Store desk.new.conn) → ForEachShown S.Store desk.old
@@ -124,11 +124,11 @@ pub fn write_export<S: Alter + Drop, W: Buffered>(
     desk: &mut Desk<S>,
     what: Export,
     writer: &mut W,
-) -> Result<Outcome, Fault>
+) -> Result<WorkOutcome, Fault>
     ensures ok { HasCleanDisk (state S.Store desk.new.conn) → OnOk result
         (ForEachShown S.Store desk.old
         (Writes (W.contents writer.old) (W.contents writer.new) (exported what))) }
-    ensures done { IfOk result (λ outcome. outcome ≡ Outcome.Done) }
+    ensures done { IfOk result (λ outcome. outcome ≡ WorkOutcome.Done) }
     ensures flushed { OnOk result (W.flushed writer.new) }
 
     ensures beginning { HasCleanDisk (state S.Store desk.new.conn) → OnErr result
@@ -150,7 +150,7 @@ pub fn write_export<S: Alter + Drop, W: Buffered>(
         Err(refusal) => return Err(Fault::from(refusal)),
     }
     match writer.flush_all() {
-        Ok(()) => Ok(Outcome::Done),
+        Ok(()) => Ok(WorkOutcome::Done),
         Err(failed) => Err(Fault::from(failed)),
     }
 }

@@ -1,16 +1,16 @@
 -- Refusals that stop a subcommand at an open desk: none of them is an opening's.
 use Rattle.std.proofs.Common.{◌≡◌, ◌⊎◌, IsTrue, Result, Ok, Err, arith, false, subst, inl, inr}
 use Rattle.std.specs.Prelude.{IfErr}
-use Rattle.desk_bytes.specs.declared.refusal.Refusal.{Refusal}
-use Rattle.desk_bytes.specs.declared.refusal.Refusal.TheVariants as refusals
-use Rattle.cli_lines.specs.declared.fault.Fault.{Fault}
-use Rattle.desk_service.specs.declared.fault.FactsFault.{FactsFault}
+use Rattle.base.specs.declared.refusal.Refusal.{Refusal}
+use Rattle.base.specs.declared.refusal.Refusal.TheVariants as refusals
+use Rattle.cli_output.specs.declared.fault.Fault.{Fault}
+use Rattle.desk_inputs.specs.declared.fault.FactsFault.{FactsFault}
 use Rattle.cli_files.specs.Faults.{IsImageFault, IsJudgingFault}
 use Rattle.cli_opening.specs.Faults.{IsOfOpening}
 use Rattle.desk_history.specs.DecisionRefusals.{may_answer}
-use Rattle.cli_lines.specs.Faults.{IsRow, IsUnreadRefusal, of_facts}
+use Rattle.cli_output.specs.Faults.{IsRow, IsUnreadRefusal, of_facts}
 use Rattle.cli_commands.specs.Faults.{IsAddingRefusal, IsForetellingRefusal, IsWritingRefusal}
-use Rattle.cli_lines.specs.declared.ending.Outcome.{Outcome}
+use Rattle.cli_output.specs.declared.ending.WorkOutcome.{WorkOutcome}
 
 -- what any work may end with
 pub told_apart : (refusal : Refusal)
@@ -41,13 +41,13 @@ pub image_apart : (fault : Fault) → IsImageFault fault → IsOfOpening fault.r
 image_apart fault it opening = row_apart fault it.1.why it.1.row opening
 
 -- nor what stops a verdict
-pub judging_apart : (work : Result Outcome Fault) → IfErr work IsJudgingFault → IfErr work (λ fault. IsOfOpening fault.refusal → ⊥)
+pub judging_apart : (work : Result WorkOutcome Fault) → IfErr work IsJudgingFault → IfErr work (λ fault. IsOfOpening fault.refusal → ⊥)
 judging_apart (Ok outcome) h = tt
 judging_apart (Err fault) (inl (inl unread)) = unread_apart fault.refusal unread.1
 judging_apart (Err fault) (inl (inr image)) = image_apart fault image
 judging_apart (Err fault) (inr unwritten) = writing_apart fault.refusal unwritten.1
 
 -- what stops the judging of an open desk stops a verdict
-pub judging_unwritten : (work : Result Outcome Fault) → IfErr work (IsRow IsWritingRefusal) → IfErr work IsJudgingFault
+pub judging_unwritten : (work : Result WorkOutcome Fault) → IfErr work (IsRow IsWritingRefusal) → IfErr work IsJudgingFault
 judging_unwritten (Ok outcome) h = tt
 judging_unwritten (Err fault) h = inr h

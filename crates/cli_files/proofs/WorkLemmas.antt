@@ -6,24 +6,24 @@ use Rattle.std.proofs.KnownBytes.{Keeps-refl}
 use Rattle.sqlite.specs.Held.{state}
 use Rattle.sqlite.specs.State.{HasCleanDisk}
 use Rattle.sqlite.specs.Store as store
-use Rattle.desk_bytes.specs.declared.refusal.Refusal.TheVariants as refusals
+use Rattle.base.specs.declared.refusal.Refusal.TheVariants as refusals
 use Rattle.desk_history.specs.Verdicts as verdicts
 use Rattle.desk_history.specs.declared.finding.Verdict.{Verdict}
-use Rattle.cli_lines.specs.Faults.{row_of}
-use Rattle.cli_lines.specs.VerdictLines.{verdict_line}
-use Rattle.cli_lines.specs.declared.fault.Fault.{Fault}
-use Rattle.desk_service.specs.ImageFacts.{IsFactsOf}
-use Rattle.desk_store.specs.Desks.{ForEachShown}
-use Rattle.desk_store.specs.Exports.{WritesBeginning}
-use Rattle.desk_store.specs.declared.desk.Desk.{Desk}
-use Rattle.desk_texts.specs.declared.facts.Facts.{Facts}
+use Rattle.cli_output.specs.Faults.{row_of}
+use Rattle.cli_output.specs.VerdictLines.{verdict_line}
+use Rattle.cli_output.specs.declared.fault.Fault.{Fault}
+use Rattle.desk_inputs.specs.ImageFacts.{IsFactsOf}
+use Rattle.store_desk.specs.Desks.{ForEachShown}
+use Rattle.store_desk.specs.Exports.{WritesBeginning}
+use Rattle.store_desk.specs.declared.desk.Desk.{Desk}
+use Rattle.desk_types.specs.declared.facts.Facts.{Facts}
 use Rattle.cli_opening.proofs.EndingLemmas.{keeps_same}
 use Rattle.cli_files.specs.Works.{JudgesImage, StopsVerdict}
 use Rattle.cli_commands.specs.Works.{outcome_of}
-use Rattle.cli_lines.specs.declared.ending.Outcome.{Outcome}
+use Rattle.cli_output.specs.declared.ending.WorkOutcome.{WorkOutcome}
 
 -- a verdict on these facts is one on the image that has them
-pub judged : {S : Type 0} (g : store.Ghosts S) (old new : Desk S) (before after : Option (List ℕ)) (work : Result Outcome Fault)
+pub judged : {S : Type 0} (g : store.Ghosts S) (old new : Desk S) (before after : Option (List ℕ)) (work : Result WorkOutcome Fault)
     (found : Facts) → ((image : List ℕ) × IsFactsOf image found)
     → IfOk work (λ outcome. (said : Verdict) × (outcome ≡ outcome_of said) × Appends before after (verdict_line said found)
     × (HasCleanDisk (state g new.conn) → ForEachShown g old (λ owner cs. said ≡ verdicts.verdict cs found)))
@@ -37,14 +37,14 @@ pub unread : {S : Type 0} (g : store.Ghosts S) (old new : Desk S) (contents : Op
 unread g old new contents fault = record { unwritten = λ other. Keeps-refl contents; beginning = inl (Keeps-refl contents) }
 
 -- what wasn't written, unless the write failed, keeps the writer's bytes
-pub silent_of : {W : Type 0} (contents : W → Option (List ℕ)) (before after : W) (work : Result Outcome Fault)
+pub silent_of : {W : Type 0} (contents : W → Option (List ℕ)) (before after : W) (work : Result WorkOutcome Fault)
     → IfErr work (λ fault. fault ≢ row_of refusals.Write → after ≡ before)
     → IfErr work (λ fault. fault ≢ row_of refusals.Write → Keeps (contents before) (contents after))
 silent_of contents before after (Ok outcome) unwritten = tt
 silent_of contents before after (Err fault) unwritten = λ other. keeps_same contents before after (unwritten other)
 
 -- a verdict on these facts stopped
-pub stopped : {S W : Type 0} (g : store.Ghosts S) (old new : Desk S) (contents : W → Option (List ℕ)) (before after : W) (work : Result Outcome Fault)
+pub stopped : {S W : Type 0} (g : store.Ghosts S) (old new : Desk S) (contents : W → Option (List ℕ)) (before after : W) (work : Result WorkOutcome Fault)
     (found : Facts) → ((image : List ℕ) × IsFactsOf image found)
     → IfErr work (λ fault. fault ≢ row_of refusals.Write → after ≡ before)
     → (HasCleanDisk (state g new.conn) → OnErr work (ForEachShown g old

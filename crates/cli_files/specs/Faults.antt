@@ -1,9 +1,9 @@
 -- The faults of a subcommand over a desk's file.
 use Rattle.std.specs.Prelude.{◌≡◌, ◌⊎◌, ℕ, List}
-use Rattle.cli_lines.specs.Faults.{IsRow, IsUnreadRefusal, of_facts}
-use Rattle.cli_lines.specs.declared.fault.Fault.{Fault}
-use Rattle.desk_service.specs.ImageFacts.{IsFirstFault}
-use Rattle.desk_service.specs.declared.fault.FactsFault.{FactsFault}
+use Rattle.cli_output.specs.Faults.{IsRow, IsUnreadRefusal, of_facts}
+use Rattle.cli_output.specs.declared.fault.Fault.{Fault}
+use Rattle.desk_inputs.specs.ImageFacts.{IsFirstFault}
+use Rattle.desk_inputs.specs.declared.fault.FactsFault.{FactsFault}
 use Rattle.cli_commands.specs.Faults.{IsWritingRefusal}
 
 -- an image has no facts: the row of its first fault, with the line of its SBAT text if that is

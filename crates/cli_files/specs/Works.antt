@@ -7,30 +7,30 @@ use Rattle.sqlite.specs.State.{HasCleanDisk}
 use Rattle.sqlite.specs.Store as store
 use Rattle.sqlite_disk.specs.declared.Disk.{Ghosts}
 use Rattle.sqlite_store.specs.declared.store.FileStore.{FileStore}
-use Rattle.desk_bytes.specs.declared.refusal.Refusal.TheVariants as refusals
+use Rattle.base.specs.declared.refusal.Refusal.TheVariants as refusals
 use Rattle.desk_exports.specs.Exports.{exported}
 use Rattle.desk_exports.specs.declared.export.Export.{Export}
 use Rattle.desk_history.specs.Verdicts as verdicts
 use Rattle.desk_history.specs.declared.finding.Verdict.{Verdict}
-use Rattle.cli_lines.specs.Faults.{row_of}
-use Rattle.cli_lines.specs.VerdictLines.{verdict_line}
-use Rattle.cli_lines.specs.declared.fault.Fault.{Fault}
+use Rattle.cli_output.specs.Faults.{row_of}
+use Rattle.cli_output.specs.VerdictLines.{verdict_line}
+use Rattle.cli_output.specs.declared.fault.Fault.{Fault}
 use Rattle.desk_history.specs.Called.{called}
-use Rattle.desk_service.specs.ImageFacts.{IsFactsOf}
+use Rattle.desk_inputs.specs.ImageFacts.{IsFactsOf}
 use Rattle.store_sql.specs.States.{Spares}
-use Rattle.desk_store.specs.Desks.{CommitsOnlyAccepted, ForEachShown, KeepsDesk, MayStop, Refuses, Replies}
-use Rattle.desk_store.specs.Exports.{SparesDesk, Writes, WritesBeginning}
-use Rattle.desk_store.specs.declared.desk.Desk.{Desk}
-use Rattle.desk_texts.specs.declared.caller.Caller.TheVariants.{Console}
-use Rattle.desk_texts.specs.declared.command.Call.{Call}
-use Rattle.desk_texts.specs.declared.command.Command.TheVariants.{AddPerson}
-use Rattle.desk_texts.specs.declared.command.Person.{Person}
-use Rattle.desk_texts.specs.declared.facts.Facts.{Facts}
-use Rattle.desk_texts.specs.declared.reply.Reply.{Reply}
+use Rattle.store_desk.specs.Desks.{CommitsOnlyAccepted, ForEachShown, KeepsDesk, MayStop, Refuses, Replies}
+use Rattle.store_desk.specs.Exports.{SparesDesk, Writes, WritesBeginning}
+use Rattle.store_desk.specs.declared.desk.Desk.{Desk}
+use Rattle.desk_types.specs.declared.caller.Caller.TheVariants.{Console}
+use Rattle.desk_types.specs.declared.command.Call.{Call}
+use Rattle.desk_types.specs.declared.command.Command.TheVariants.{AddPerson}
+use Rattle.desk_types.specs.declared.command.Person.{Person}
+use Rattle.desk_types.specs.declared.facts.Facts.{Facts}
+use Rattle.desk_types.specs.declared.reply.Reply.{Reply}
 use Rattle.cli_opening.specs.Works.{WorksAt}
 use Rattle.cli_commands.specs.Works.{Foretells, MayHaveAnswered, RefusesImpact, answer_line, foretold_lines, outcome_of, reply_line}
-use Rattle.cli_lines.specs.declared.ending.Ending.{Ending}
-use Rattle.cli_lines.specs.declared.ending.Outcome.{Outcome}
+use Rattle.cli_output.specs.declared.ending.Ending.{Ending}
+use Rattle.cli_output.specs.declared.ending.WorkOutcome.{WorkOutcome}
 
 -- own: the console's call that adds a person
 abbrev pub adding : List ℕ → Person → Call
@@ -38,7 +38,7 @@ adding key person = called Console key (AddPerson person)
 
 -- the line of the desk's verdict on an image, from its history and the image's facts, and the
 -- outcome of that verdict
-pub record JudgesImage {S : Type 0} (g : store.Ghosts S) (old new : Desk S) (before after : Option (List ℕ)) (outcome : Outcome) : Type 0 where
+pub record JudgesImage {S : Type 0} (g : store.Ghosts S) (old new : Desk S) (before after : Option (List ℕ)) (outcome : WorkOutcome) : Type 0 where
   pub image : List ℕ
   pub found : Facts
   pub facts : IsFactsOf image found
@@ -67,7 +67,7 @@ module _ {S : Type 0} (g : store.Ghosts S) where
 
   -- After work that reads, the desk shows each history that it showed, and a stop leaves only what it
   -- could have left before.
-  abbrev pub IsOnlyRead : Desk S → Desk S → Result Outcome Fault → Type 0
+  abbrev pub IsOnlyRead : Desk S → Desk S → Result WorkOutcome Fault → Type 0
   IsOnlyRead desk left work =
       (HasCleanDisk (state g left.conn) → work ≢ Err (row_of refusals.Store) → KeepsDesk g desk left)
       × SparesDesk g desk left
@@ -75,14 +75,14 @@ module _ {S : Type 0} (g : store.Ghosts S) where
 
   -- the bytes of this export, for each history that the desk shows, were written, or a prefix of
   -- them
-  abbrev pub WritesExport : Export → Option (List ℕ) → Option (List ℕ) → Desk S → Desk S → Result Outcome Fault → Type 0
+  abbrev pub WritesExport : Export → Option (List ℕ) → Option (List ℕ) → Desk S → Desk S → Result WorkOutcome Fault → Type 0
   WritesExport what before after desk left work = IsOnlyRead desk left work × (HasCleanDisk (state g left.conn)
       → OnOk work (ForEachShown g desk (Writes before after (exported what)))
       × OnErr work (ForEachShown g desk (WritesBeginning before after (exported what))))
 
   -- the line of the verdict on an image was written, and the outcome is that of the verdict; or the
   -- verdict stopped
-  abbrev pub WritesVerdict : Option (List ℕ) → Option (List ℕ) → Desk S → Desk S → Result Outcome Fault → Type 0
+  abbrev pub WritesVerdict : Option (List ℕ) → Option (List ℕ) → Desk S → Desk S → Result WorkOutcome Fault → Type 0
   WritesVerdict before after desk left work = IsOnlyRead desk left work
       × IfOk work (JudgesImage g desk left before after)
       × IfErr work (StopsVerdict g desk left before after)
@@ -90,7 +90,7 @@ module _ {S : Type 0} (g : store.Ghosts S) where
   -- The impact of the proposal of this number was written, or a prefix of it, and the outcome is its
   -- own; or the refusal is, except for the device's and the writer's. Only if the write failed was a
   -- prefix written.
-  abbrev pub ForetellsImpact : ℕ → Option (List ℕ) → Option (List ℕ) → Desk S → Desk S → Result Outcome Fault → Type 0
+  abbrev pub ForetellsImpact : ℕ → Option (List ℕ) → Option (List ℕ) → Desk S → Desk S → Result WorkOutcome Fault → Type 0
   ForetellsImpact k before after desk left work = IsOnlyRead desk left work
       × IfErr work (λ fault. fault ≢ row_of refusals.Write → Keeps before after) × (HasCleanDisk (state g left.conn)
       → OnOk work (ForEachShown g desk (Writes before after (foretold_lines k)))
@@ -102,7 +102,7 @@ module _ {S : Type 0} (g : store.Ghosts S) where
   -- What a call of the console commits: nothing, if it is refused or a repeat. A stop leaves the history
   -- before the call or the one after it; with a fault of neither memory, the store nor the writer only
   -- what it could have left before.
-  abbrev pub CommitsCall : Call → Desk S → Desk S → Result Outcome Fault → Type 0
+  abbrev pub CommitsCall : Call → Desk S → Desk S → Result WorkOutcome Fault → Type 0
   CommitsCall c desk left work = MayStop g desk left c × CommitsOnlyAccepted g desk left c
       × IfErr work (λ fault. fault ≢ row_of refusals.NoMemory → fault ≢ row_of refusals.Store → fault ≢ row_of refusals.Write
       → Spares g desk.conn left.conn)
@@ -112,7 +112,7 @@ module _ {S : Type 0} (g : store.Ghosts S) where
   -- The desk answered a call of the console: the line of its reply was written, or a prefix of the line
   -- that is due; or the refusal is the rules', except for the device's and the writer's, and the desk
   -- shows the same history. Only if the write failed was a prefix written.
-  abbrev pub AnswersCall : Call → Option (List ℕ) → Option (List ℕ) → Desk S → Desk S → Result Outcome Fault → Type 0
+  abbrev pub AnswersCall : Call → Option (List ℕ) → Option (List ℕ) → Desk S → Desk S → Result WorkOutcome Fault → Type 0
   AnswersCall c before after desk left work = CommitsCall c desk left work
       × IfErr work (λ fault. fault ≢ row_of refusals.Write → Keeps before after) × (HasCleanDisk (state g left.conn)
       → OnOk work ((reply : Reply) × Replies g desk left c reply × Appends before after (reply_line reply))

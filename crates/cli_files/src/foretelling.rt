@@ -1,7 +1,7 @@
 //! The impact of a proposal to the desk in a file.
 ghost use Rattle.std.specs.Prelude.{◌≡◌, ◌⊎◌, None, IfErr, IfSome, OnOk};
 ghost use Rattle.std.specs.Io.KnownBytes.{Keeps};
-ghost use Rattle.cli_lines.specs.Faults.{IsRow};
+ghost use Rattle.cli_output.specs.Faults.{IsRow};
 ghost use Rattle.cli_files.specs.Works.{ForetellsImpact, WritesImpact};
 ghost use Rattle.cli_commands.specs.Faults.{IsForetellingRefusal};
 ghost use Rattle.cli_opening.specs.Faults.{IsClosingRefusal, IsLasting};
@@ -9,10 +9,10 @@ ghost use Rattle.cli_opening.specs.Faults.{IsOfOpening, IsOpeningRefusal};
 ghost use Rattle.cli_opening.specs.Works.{AtADesk, IsUnopened};
 
 use cli_commands::foretell;
-use cli_lines::{Buffered, Ending};
-use cli_opening::{Room, Work, Worked, on_desk};
-use desk_store::Desk;
-use desk_texts::ProposalNumber;
+use cli_output::{Buffered, Ending};
+use cli_opening::{CacheSize, Work, Worked, on_desk};
+use store_desk::Desk;
+use desk_types::ProposalNumber;
 use sqlite::{Alter, FileFrom, Start};
 use sqlite_disk::Disk;
 use std::marker::PhantomData;
@@ -75,5 +75,5 @@ pub fn foretell_from<S: Start, W: Buffered>(
         number,
         writer: PhantomData,
     };
-    on_desk(rt, path, start, Room::AsItIs, foretelling, writer)
+    on_desk(rt, path, start, CacheSize::AsItIs, foretelling, writer)
 }

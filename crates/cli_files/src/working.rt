@@ -5,11 +5,11 @@ ghost use Rattle.std.specs.Prelude.{IfErr, IfOk, IfSome, OnOk};
 ghost use Rattle.std.specs.Io.KnownBytes.{Keeps};
 ghost use Rattle.sqlite.specs.Held.{state};
 ghost use Rattle.sqlite.specs.State.{HasCleanDisk};
-ghost use Rattle.desk_bytes.specs.declared.refusal.Refusal.TheVariants as refusals;
-ghost use Rattle.cli_lines.specs.Faults.{IsRow, IsUnreadRefusal, row_of};
-ghost use Rattle.desk_service.specs.ImageFacts.{IsFactsOf};
+ghost use Rattle.base.specs.declared.refusal.Refusal.TheVariants as refusals;
+ghost use Rattle.cli_output.specs.Faults.{IsRow, IsUnreadRefusal, row_of};
+ghost use Rattle.desk_inputs.specs.ImageFacts.{IsFactsOf};
 ghost use Rattle.store_sql.specs.States.{Spares};
-ghost use Rattle.desk_store.specs.Desks.{KeepsDesk};
+ghost use Rattle.store_desk.specs.Desks.{KeepsDesk};
 ghost use Rattle.cli_files.specs.Faults.{HasFault, IsImageFault, IsJudgingFault};
 ghost use Rattle.cli_opening.specs.Faults.{IsClosingRefusal, IsLasting};
 ghost use Rattle.cli_opening.specs.Faults.{IsOfOpening, IsOpeningRefusal};
@@ -17,15 +17,15 @@ ghost use Rattle.cli_opening.specs.Works.{AtADesk, IsUnopened};
 ghost use Rattle.cli_files.specs.Works.{AnswersCall, Calls, Exports, Judges, JudgesImage};
 ghost use Rattle.cli_files.specs.Works.{StopsVerdict, WritesExport, WritesVerdict, adding};
 ghost use Rattle.cli_commands.specs.Faults.{IsAddingRefusal, IsWritingRefusal};
-ghost use Rattle.cli_lines.specs.declared.ending.Outcome.TheVariants.{Done};
+ghost use Rattle.cli_output.specs.declared.ending.WorkOutcome.TheVariants.{Done};
 
 use cli_commands::{add, judge, write_export};
-use cli_lines::{Buffered, Ending, Fault, Outcome, read_image};
-use cli_opening::{Room, Work, Worked, on_desk};
+use cli_output::{Buffered, Ending, Fault, WorkOutcome, read_image};
+use cli_opening::{CacheSize, Work, Worked, on_desk};
 use desk_exports::Export;
-use desk_service::facts;
-use desk_store::Desk;
-use desk_texts::{Facts, Key, Person};
+use desk_inputs::facts;
+use store_desk::Desk;
+use desk_types::{Facts, Key, Person};
 use pe_image::Pieces;
 use sqlite::{Alter, FileFrom, Start};
 use sqlite_disk::Disk;
@@ -83,7 +83,7 @@ pub fn add_person<S: Start, W: Buffered>(
         × Keeps (W.contents writer.old) (W.contents writer.new))
         ⊎ AtADesk S.Start (Calls ⟦<FileFrom<S> as Disk>⟧ (adding key.now person)
         (W.contents writer.old) (W.contents writer.new) result) }
-    ensures done { IfOk result.work (λ outcome. outcome ≡ Outcome.Done) }
+    ensures done { IfOk result.work (λ outcome. outcome ≡ WorkOutcome.Done) }
     ensures flushed { OnOk result.work (W.flushed writer.new) }
     ensures named { IfErr result.work (IsRow (λ refusal.
         IsOpeningRefusal refusal ⊎ IsAddingRefusal refusal)) }
@@ -97,7 +97,7 @@ pub fn add_person<S: Start, W: Buffered>(
         person,
         writer: PhantomData,
     };
-    on_desk(rt, path, start, Room::AsItIs, adding, writer)
+    on_desk(rt, path, start, CacheSize::AsItIs, adding, writer)
 }
 
 /// The facts of an image that the desk keeps.
@@ -123,7 +123,7 @@ fn judge_file<S: Alter + Drop, W: Buffered>(
     desk: &mut Desk<S>,
     file: &str,
     writer: &mut W,
-) -> Result<Outcome, Fault>
+) -> Result<WorkOutcome, Fault>
     ensures told { IfOk result (JudgesImage S.Store desk.old desk.new
         (W.contents writer.old) (W.contents writer.new)) }
     ensures stopped { IfErr result (StopsVerdict S.Store desk.old desk.new
@@ -198,7 +198,7 @@ pub fn judge_image<S: Start, W: Buffered>(
         file,
         writer: PhantomData,
     };
-    on_desk(rt, path, start, Room::AsItIs, judging, writer)
+    on_desk(rt, path, start, CacheSize::AsItIs, judging, writer)
 }
 
 /// Writes an export.
@@ -244,7 +244,7 @@ pub fn export_from<S: Start, W: Buffered>(
         × Keeps (W.contents writer.old) (W.contents writer.new))
         ⊎ AtADesk S.Start (Exports ⟦<FileFrom<S> as Disk>⟧ what
         (W.contents writer.old) (W.contents writer.new) result) }
-    ensures done { IfOk result.work (λ outcome. outcome ≡ Outcome.Done) }
+    ensures done { IfOk result.work (λ outcome. outcome ≡ WorkOutcome.Done) }
     ensures flushed { OnOk result.work (W.flushed writer.new) }
     ensures named { IfErr result.work (IsRow (λ refusal.
         IsOpeningRefusal refusal ⊎ IsWritingRefusal refusal)) }
@@ -257,5 +257,5 @@ pub fn export_from<S: Start, W: Buffered>(
         what,
         writer: PhantomData,
     };
-    on_desk(rt, path, start, Room::AsItIs, exporting, writer)
+    on_desk(rt, path, start, CacheSize::AsItIs, exporting, writer)
 }

@@ -4,14 +4,14 @@ use Rattle.std.specs.Prelude.{IfErr}
 use Rattle.sqlite_disk.specs.declared.Disk.{Ghosts}
 use Rattle.sqlite_disk.specs.declared.start.Start as start
 use Rattle.sqlite_store.specs.declared.store.FileStore.{FileStore}
-use Rattle.desk_bytes.specs.declared.refusal.Refusal.{Refusal}
-use Rattle.desk_bytes.specs.declared.refusal.Refusal.TheVariants as refusals
-use Rattle.desk_store.specs.declared.desk.Desk.{Desk}
-use Rattle.desk_lines.specs.declared.lines.LineWatch.{LineWatch}
-use Rattle.cli_lines.specs.Faults.{IsRow, row_of}
-use Rattle.cli_lines.specs.declared.ending.Ending.{Ending}
-use Rattle.cli_lines.specs.declared.ending.Outcome.{Outcome}
-use Rattle.cli_lines.specs.declared.fault.Fault.{Fault}
+use Rattle.base.specs.declared.refusal.Refusal.{Refusal}
+use Rattle.base.specs.declared.refusal.Refusal.TheVariants as refusals
+use Rattle.store_desk.specs.declared.desk.Desk.{Desk}
+use Rattle.store_minutes.specs.declared.lines.LineWatch.{LineWatch}
+use Rattle.cli_output.specs.Faults.{IsRow, row_of}
+use Rattle.cli_output.specs.declared.ending.Ending.{Ending}
+use Rattle.cli_output.specs.declared.ending.WorkOutcome.{WorkOutcome}
+use Rattle.cli_output.specs.declared.fault.Fault.{Fault}
 use Rattle.cli_audit.specs.Faults.{wrong_line}
 use Rattle.cli_opening.specs.Opening.{IsFoundOrMade}
 use Rattle.cli_opening.specs.declared.ended.Ended.{Ended}
@@ -24,13 +24,13 @@ use Rattle.cli_follow.specs.Runs.{AtFoundOrMade, Follows, RunsOn}
 abbrev IsFoundRow : LineWatch → Fault → Type 0
 IsFoundRow watch fault = (fault ≡ row_of refusals.Owner) ⊎ IsRunRow watch fault
 
-ran_row : (watch : LineWatch) (work : Result Outcome Fault) → IfErr work (IsRunRow watch) → IfErr work (IsFoundRow watch)
+ran_row : (watch : LineWatch) (work : Result WorkOutcome Fault) → IfErr work (IsRunRow watch) → IfErr work (IsFoundRow watch)
 ran_row watch (Ok outcome) h = tt
 ran_row watch (Err fault) h = inr h
 
 found_row : {D : Type 0} (g : Ghosts D) (owner : List ℕ) (given before after : Option (List ℕ)) (watch : LineWatch) (ending : Ended D g) (desk : Desk (FileStore D g))
     → Follows g owner given before after watch ending desk → IfErr ending.work (IsFoundRow watch)
-found_row g owner given before after watch ending desk (inl other) = subst (λ (w : Result Outcome Fault). IfErr w (IsFoundRow watch)) (sym other.told) (inl refl)
+found_row g owner given before after watch ending desk (inl other) = subst (λ (w : Result WorkOutcome Fault). IfErr w (IsFoundRow watch)) (sym other.told) (inl refl)
 found_row g owner given before after watch ending desk (inr (own, inl at)) = ran_row watch ending.work at.ran.named
 found_row g owner given before after watch ending desk (inr (own, inr lost)) =
     subst (λ (e : Ending). IfErr e.work (IsFoundRow watch)) (sym lost.told) (inr (inr (refl, lost.named)))
@@ -41,7 +41,7 @@ follow_row : (watch : LineWatch) (fault : Fault) → IsFoundRow watch fault → 
 follow_row watch fault (inl owner) = inl (ap (λ (f : Fault). f.place) owner, inr (ap (λ (f : Fault). f.refusal) owner))
 follow_row watch fault (inr ran) = inr ran
 
-follow_rows : (watch : LineWatch) (work : Result Outcome Fault) → IfErr work (IsFoundRow watch) → IfErr work (IsFollowRow watch)
+follow_rows : (watch : LineWatch) (work : Result WorkOutcome Fault) → IfErr work (IsFoundRow watch) → IfErr work (IsFollowRow watch)
 follow_rows watch (Ok outcome) h = tt
 follow_rows watch (Err fault) h = follow_row watch fault h
 
@@ -69,7 +69,7 @@ row_apart watch fault (inl owner) = owner_apart fault.refusal (ap (λ (f : Fault
 row_apart watch fault (inr (inl line)) = minute_apart fault.refusal (ap (λ (f : Fault). f.refusal) line.1)
 row_apart watch fault (inr (inr ran)) = run_apart watch fault.refusal ran.1
 
-rows_apart : (X : Type 0) (watch : LineWatch) (work : Result Outcome Fault) → IfErr work (IsFoundRow watch) → IfErr work (λ fault. IsOfFinding fault.refusal → X)
+rows_apart : (X : Type 0) (watch : LineWatch) (work : Result WorkOutcome Fault) → IfErr work (IsFoundRow watch) → IfErr work (λ fault. IsOfFinding fault.refusal → X)
 rows_apart X watch (Ok outcome) h = tt
 rows_apart X watch (Err fault) h = λ finding. absurd (row_apart watch fault h finding)
 
@@ -79,7 +79,7 @@ not_owner watch refusal ran owner = let told = plain watch refusal ran in grind 
 line_not_owner : (fault : Fault) (n : ℕ) → fault ≡ wrong_line n → fault.refusal ≡ refusals.Owner → ⊥
 line_not_owner fault n line owner = let bad : refusals.Minute ≡ refusals.Owner = sym (ap (λ (f : Fault). f.refusal) line) ∙ owner in absurd (cc)
 
-ran_unowned : (X : Type 0) (watch : LineWatch) (work : Result Outcome Fault) → IfErr work (IsRunRow watch) → IfErr work (λ fault. fault.refusal ≡ refusals.Owner → X)
+ran_unowned : (X : Type 0) (watch : LineWatch) (work : Result WorkOutcome Fault) → IfErr work (IsRunRow watch) → IfErr work (λ fault. fault.refusal ≡ refusals.Owner → X)
 ran_unowned X watch (Ok outcome) h = tt
 ran_unowned X watch (Err fault) (inl line) = λ owner. absurd (line_not_owner fault line.0 line.1 owner)
 ran_unowned X watch (Err fault) (inr ran) = λ owner. absurd (not_owner watch fault.refusal ran.1 owner)
@@ -111,7 +111,7 @@ at_desk {D} {S} {g} {first} owner held given before after watch ending desk same
 }
 
 -- a reader isn't asked where the desk has another owner; a caller that gave it sees the rest
-pub unasked : (X Y Z : Type 0) (work : Result Outcome Fault) → IfErr work (λ fault. fault.refusal ≡ refusals.Owner → X × Y × Z)
+pub unasked : (X Y Z : Type 0) (work : Result WorkOutcome Fault) → IfErr work (λ fault. fault.refusal ≡ refusals.Owner → X × Y × Z)
     → IfErr work (λ fault. fault.refusal ≡ refusals.Owner → Y × Z)
 unasked X Y Z (Ok outcome) h = tt
 unasked X Y Z (Err fault) h = λ owner. ((h owner).1, (h owner).2)

@@ -6,23 +6,23 @@ use Rattle.std.proofs.KnownBytes.{Keeps-refl}
 use Rattle.sqlite.specs.Held.{state}
 use Rattle.sqlite.specs.State.{State, HasCleanDisk}
 use Rattle.sqlite.specs.Store.{Ghosts}
-use Rattle.desk_bytes.specs.Output.{AppendsBeginning}
-use Rattle.desk_bytes.specs.declared.refusal.Refusal.{Refusal}
-use Rattle.desk_bytes.specs.declared.refusal.Refusal.TheVariants as refusals
+use Rattle.base.specs.Output.{AppendsBeginning}
+use Rattle.base.specs.declared.refusal.Refusal.{Refusal}
+use Rattle.base.specs.declared.refusal.Refusal.TheVariants as refusals
 use Rattle.store_schema.specs.rows.Histories.{LeavesHistory}
-use Rattle.desk_store.specs.Desks.{ForEachShown, KeepsDesk}
-use Rattle.desk_store.specs.Exports.{Writes, WritesBeginning}
-use Rattle.desk_store.specs.declared.desk.Desk.{Desk}
-use Rattle.desk_lines.specs.Faults.{IsCaused, IsDeskFailure}
-use Rattle.desk_lines.specs.Starts.{Start}
-use Rattle.desk_lines.specs.Watches.{IsReadFault}
-use Rattle.desk_lines.specs.declared.auditing.AuditFault.{AuditFault}
-use Rattle.desk_lines.specs.declared.auditing.AuditFault.TheVariants.{Device, Line}
-use Rattle.desk_lines.specs.declared.lines.LineWatch.{LineWatch}
-use Rattle.desk_follow.specs.Runs.{HasRun, IsWrongLine, LeavesRun}
-use Rattle.cli_lines.specs.Faults.{IsRow, row_of}
-use Rattle.cli_lines.specs.declared.ending.Outcome.{Outcome}
-use Rattle.cli_lines.specs.declared.fault.Fault.{Fault}
+use Rattle.store_desk.specs.Desks.{ForEachShown, KeepsDesk}
+use Rattle.store_desk.specs.Exports.{Writes, WritesBeginning}
+use Rattle.store_desk.specs.declared.desk.Desk.{Desk}
+use Rattle.store_minutes.specs.Faults.{IsCaused, IsDeskFailure}
+use Rattle.store_minutes.specs.Starts.{Start}
+use Rattle.store_minutes.specs.Watches.{IsReadFault}
+use Rattle.store_minutes.specs.declared.auditing.AuditFault.{AuditFault}
+use Rattle.store_minutes.specs.declared.auditing.AuditFault.TheVariants.{Device, Line}
+use Rattle.store_minutes.specs.declared.lines.LineWatch.{LineWatch}
+use Rattle.store_follow.specs.Runs.{HasRun, IsWrongLine, LeavesRun}
+use Rattle.cli_output.specs.Faults.{IsRow, row_of}
+use Rattle.cli_output.specs.declared.ending.WorkOutcome.{WorkOutcome}
+use Rattle.cli_output.specs.declared.fault.Fault.{Fault}
 use Rattle.cli_commands.specs.Faults.{IsWritingRefusal}
 use Rattle.cli_audit.proofs.AuditLemmas.{line_of}
 use Rattle.cli_audit.specs.Audits.{ForEachCounted}
@@ -40,7 +40,7 @@ no_fault a fault e = cc
 pub other_fault : {A B : Type 0} (fault other : Fault) → ◌≢◌ {A = Result A Fault} (Err fault) (Err other) → ◌≢◌ {A = Result B Fault} (Err fault) (Err other)
 other_fault fault other differs e = differs (let same : fault ≡ other = cc in ap Err same)
 
-not_store : (fault : Fault) → fault ≡ row_of refusals.Write → ◌≢◌ {A = Result Outcome Fault} (Err fault) (Err (row_of refusals.Store))
+not_store : (fault : Fault) → fault ≡ row_of refusals.Write → ◌≢◌ {A = Result WorkOutcome Fault} (Err fault) (Err (row_of refusals.Store))
 not_store fault is e =
     let same : fault ≡ row_of refusals.Store = cc in
     let bad : refusals.Write ≡ refusals.Store = ap (λ (f : Fault). f.refusal) (sym is ∙ same) in
@@ -97,29 +97,29 @@ module _ {S : Type 0} (g : Ghosts S) where
   left_of_run ran at s calls (inr a) left clean db may = inl (left s.owner s.earlier a.shows clean db may)
 
   module _ (desk ran left : Desk S) (calls : ℕ) (given before after : Option (List ℕ)) where
-    all_told : (work : Result Outcome Fault) → (work ≢ Err (row_of refusals.Store) → KeepsDesk g ran left)
+    all_told : (work : Result WorkOutcome Fault) → (work ≢ Err (row_of refusals.Store) → KeepsDesk g ran left)
         → OnOk work (ForEachCounted g ran calls (Writes before after audit_lines)) → ForEachStart g desk given (λ s. HasRun g ran s calls)
         → OnOk work (ForEachStart g desk given (λ s. HasTold g left s (Appends before after)))
     all_told (Ok outcome) keeps w run = λ s b. told_of ran left s calls (Appends before after) (keeps (no_fault outcome (row_of refusals.Store))) (run s b) w
     all_told (Err fault) keeps w run = tt
 
-    part_told : (work : Result Outcome Fault) → (work ≢ Err (row_of refusals.Store) → KeepsDesk g ran left)
+    part_told : (work : Result WorkOutcome Fault) → (work ≢ Err (row_of refusals.Store) → KeepsDesk g ran left)
         → IfErr work (λ fault. fault ≡ row_of refusals.Write → ForEachCounted g ran calls (WritesBeginning before after audit_lines)) → ForEachStart g desk given (λ s. HasRun g ran s calls)
         → IfErr work (λ fault. fault ≡ row_of refusals.Write → ForEachStart g desk given (λ s. HasTold g left s (AppendsBeginning before after)))
     part_told (Ok outcome) keeps w run = tt
     part_told (Err fault) keeps w run = λ write s b. told_of ran left s calls (AppendsBeginning before after) (keeps (not_store fault write)) (run s b) (w write)
 
-    no_line : (work : Result Outcome Fault) → IfErr work (IsRow IsWritingRefusal)
+    no_line : (work : Result WorkOutcome Fault) → IfErr work (IsRow IsWritingRefusal)
         → IfErr work (λ fault. (n : ℕ) → fault ≡ wrong_line n → ForEachStart g desk given (λ s. IsWrongLine g desk left s n))
     no_line (Ok outcome) h = tt
     no_line (Err fault) h = λ n is s b. absurd (no_place fault n h.0 is)
 
-    row_told : (watch : LineWatch) (work : Result Outcome Fault) → IfErr work (IsRow IsWritingRefusal) → IfErr work (IsRunRow watch)
+    row_told : (watch : LineWatch) (work : Result WorkOutcome Fault) → IfErr work (IsRow IsWritingRefusal) → IfErr work (IsRunRow watch)
     row_told watch (Ok outcome) h = tt
     row_told watch (Err fault) h = inr (h.0, writing_refusal watch fault.refusal h.1)
 
     -- the run of a desk that followed all
-    pub told_runs : (watch : LineWatch) (work : Result Outcome Fault) → (HasCleanDisk (state g ran.conn) → ForEachStart g desk given (λ s. HasRun g ran s calls))
+    pub told_runs : (watch : LineWatch) (work : Result WorkOutcome Fault) → (HasCleanDisk (state g ran.conn) → ForEachStart g desk given (λ s. HasRun g ran s calls))
         → (HasCleanDisk (state g ran.conn) → HasCleanDisk (state g desk.conn)) → Tells g ran left calls before after work → Runs g desk left given before after watch work
     told_runs watch work run was told = record {
       followed = λ clean. all_told work (told.same clean) (told.ok clean) (run (told.clean clean));

@@ -1,13 +1,13 @@
 -- The rows of the table of refusals for a run of `follow`.
 use Rattle.std.specs.Prelude.{◌≡◌, ◌⊎◌, ℕ}
-use Rattle.desk_bytes.specs.declared.refusal.Refusal.{Refusal}
-use Rattle.desk_bytes.specs.declared.refusal.Refusal.TheVariants as refusals
-use Rattle.desk_lines.specs.Faults.{IsDeskFailure}
-use Rattle.desk_lines.specs.Watches.{IsReadFault}
-use Rattle.desk_lines.specs.declared.lines.LineWatch.{LineWatch}
+use Rattle.base.specs.declared.refusal.Refusal.{Refusal}
+use Rattle.base.specs.declared.refusal.Refusal.TheVariants as refusals
+use Rattle.store_minutes.specs.Faults.{IsDeskFailure}
+use Rattle.store_minutes.specs.Watches.{IsReadFault}
+use Rattle.store_minutes.specs.declared.lines.LineWatch.{LineWatch}
 use Rattle.cli_audit.specs.Faults.{wrong_line}
-use Rattle.cli_lines.specs.Faults.{IsRow}
-use Rattle.cli_lines.specs.declared.fault.Fault.{Fault}
+use Rattle.cli_output.specs.Faults.{IsRow}
+use Rattle.cli_output.specs.declared.fault.Fault.{Fault}
 use Rattle.cli_opening.specs.Faults.{IsFindingRefusal, IsOfOpening}
 
 -- own: the refusals that only the finding or making of a desk gives

@@ -8,21 +8,21 @@ use Rattle.sqlite.specs.Store as store
 use Rattle.sqlite_disk.specs.declared.Disk.{Ghosts}
 use Rattle.sqlite_disk.specs.declared.start.Start as start
 use Rattle.sqlite_store.specs.declared.store.FileStore.{FileStore}
-use Rattle.desk_bytes.specs.Output.{AppendsBeginning}
-use Rattle.desk_bytes.specs.declared.refusal.Refusal.{Refusal}
-use Rattle.desk_bytes.specs.declared.refusal.Refusal.TheVariants as refusals
+use Rattle.base.specs.Output.{AppendsBeginning}
+use Rattle.base.specs.declared.refusal.Refusal.{Refusal}
+use Rattle.base.specs.declared.refusal.Refusal.TheVariants as refusals
 use Rattle.store_schema.specs.rows.Histories.{LeavesHistory}
-use Rattle.desk_store.specs.Desks.{ForEachShown, KeepsDesk}
-use Rattle.desk_store.specs.Exports.{Writes, WritesBeginning}
-use Rattle.desk_store.specs.declared.desk.Desk.{Desk}
-use Rattle.desk_lines.specs.Starts.{HasFollowedAfter, Start}
-use Rattle.desk_lines.specs.declared.lines.LineWatch.{LineWatch}
-use Rattle.desk_lines.specs.Comparing.{Begins}
-use Rattle.desk_follow.specs.Runs.{HasRun, IsAhead, IsWrongLine, LeavesRun}
-use Rattle.cli_lines.specs.Endings.{unopened}
-use Rattle.cli_lines.specs.Faults.{IsRow, row_of}
-use Rattle.cli_lines.specs.declared.ending.Outcome.{Outcome}
-use Rattle.cli_lines.specs.declared.fault.Fault.{Fault}
+use Rattle.store_desk.specs.Desks.{ForEachShown, KeepsDesk}
+use Rattle.store_desk.specs.Exports.{Writes, WritesBeginning}
+use Rattle.store_desk.specs.declared.desk.Desk.{Desk}
+use Rattle.store_minutes.specs.Starts.{HasFollowedAfter, Start}
+use Rattle.store_minutes.specs.declared.lines.LineWatch.{LineWatch}
+use Rattle.store_minutes.specs.Comparing.{Begins}
+use Rattle.store_follow.specs.Runs.{HasRun, IsAhead, IsWrongLine, LeavesRun}
+use Rattle.cli_output.specs.Endings.{unopened}
+use Rattle.cli_output.specs.Faults.{IsRow, row_of}
+use Rattle.cli_output.specs.declared.ending.WorkOutcome.{WorkOutcome}
+use Rattle.cli_output.specs.declared.fault.Fault.{Fault}
 use Rattle.cli_commands.specs.Faults.{IsWritingRefusal}
 use Rattle.cli_audit.specs.Audits.{ForEachCounted}
 use Rattle.cli_audit.specs.Faults.{wrong_line}
@@ -52,7 +52,7 @@ module _ {S : Type 0} (g : store.Ghosts S) where
 
   -- The lines of an audit of a desk of so many calls, written with this result. The desk shows what it
   -- showed, except after Store. A stop leaves that.
-  pub record Tells (desk left : Desk S) (calls : ℕ) (before after : Option (List ℕ)) (work : Result Outcome Fault) : Type 0 where
+  pub record Tells (desk left : Desk S) (calls : ℕ) (before after : Option (List ℕ)) (work : Result WorkOutcome Fault) : Type 0 where
     pub ok : HasCleanDisk (state g left.conn) → OnOk work (ForEachCounted g desk calls (Writes before after audit_lines))
     pub unwritten : HasCleanDisk (state g left.conn) → IfErr work (λ fault. fault ≡ row_of refusals.Write → ForEachCounted g desk calls (WritesBeginning before after audit_lines))
     pub silent : IfErr work (λ fault. fault ≢ row_of refusals.Write → Keeps before after)
@@ -62,7 +62,7 @@ module _ {S : Type 0} (g : store.Ghosts S) where
     pub clean : HasCleanDisk (state g left.conn) → HasCleanDisk (state g desk.conn)
 
   -- A run over a reader's bytes, on a desk that it left so, with this result.
-  pub record Runs (desk left : Desk S) (given before after : Option (List ℕ)) (watch : LineWatch) (work : Result Outcome Fault) : Type 0 where
+  pub record Runs (desk left : Desk S) (given before after : Option (List ℕ)) (watch : LineWatch) (work : Result WorkOutcome Fault) : Type 0 where
     -- with Ok all was followed, and the lines were written
     pub followed : HasCleanDisk (state g left.conn) → OnOk work (ForEachStart desk given (λ s. HasTold left s (Appends before after)))
     -- a wrong line has its number

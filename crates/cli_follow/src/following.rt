@@ -3,19 +3,19 @@
 ghost use Rattle.std.specs.Prelude.{◌≡◌, ◌⊎◌, None, IfErr, IfOk, IfSome, OnErr, OnOk};
 ghost use Rattle.sqlite.specs.Held.{state};
 ghost use Rattle.sqlite.specs.State.{HasCleanDisk};
-ghost use Rattle.desk_follow.specs.Runs.{LeavesRun};
-ghost use Rattle.cli_lines.specs.Faults.{IsRow};
+ghost use Rattle.store_follow.specs.Runs.{LeavesRun};
+ghost use Rattle.cli_output.specs.Faults.{IsRow};
 ghost use Rattle.cli_opening.specs.Faults.{IsClosingRefusal, IsLasting};
 ghost use Rattle.cli_follow.specs.Faults.{IsFollowRow, IsOfFinding, IsRunRefusal};
 ghost use Rattle.cli_follow.specs.Runs.{AtFoundOrMade, Follows, ForEachStart, IsUnfound, Runs};
 ghost use Rattle.cli_follow.specs.Runs.{RunsOn, Tells};
 
-use cli_audit::{LineWatch, row, say_told};
-use cli_lines::{Buffered, Fault, Outcome};
+use cli_audit::{LineWatch, fault_row, say_told};
+use cli_output::{Buffered, Fault, WorkOutcome};
 use cli_opening::{Ended, Left, Worked, close_after, open_or_make};
-use desk_bytes::{Guid, Refusal};
-use desk_follow::{Followed, follow, has_owner};
-use desk_store::Desk;
+use base::{Guid, Refusal};
+use store_follow::{Followed, follow, has_owner};
+use store_desk::Desk;
 use sqlite::{Alter, Connection, FileFrom, FileStore, Start};
 use sqlite_disk::Disk;
 use std::alloc::Global;
@@ -25,13 +25,13 @@ use std::io::{BufRead, BufReader, Read};
 fn tell<S: Alter + Drop, W: Buffered>(mut desk: Desk<S>, calls: u64, writer: &mut W) -> Worked<S>
     ensures told { Tells S.Store desk result.desk calls
         (W.contents writer.old) (W.contents writer.new) result.work }
-    ensures done { IfOk result.work (λ outcome. outcome ≡ Outcome.Done) }
+    ensures done { IfOk result.work (λ outcome. outcome ≡ WorkOutcome.Done) }
     ensures flushed { OnOk result.work (W.flushed writer.new) }
 {
     match say_told(&mut desk, calls, writer) {
         Ok(()) => Worked {
             desk,
-            work: Ok(Outcome::Done),
+            work: Ok(WorkOutcome::Done),
         },
         Err(fault) => Worked {
             desk,
@@ -52,7 +52,7 @@ fn follow_and_tell<S: Alter + Drop, R: BufRead, W: Buffered>(
     ensures ran { IfOk result (λ worked. Runs S.Store desk worked.desk (R.remaining reader.old)
         (W.contents writer.old) (W.contents writer.new) watch.new worked.work) }
     ensures done { IfOk result (λ worked.
-        IfOk worked.work (λ outcome. outcome ≡ Outcome.Done)) }
+        IfOk worked.work (λ outcome. outcome ≡ WorkOutcome.Done)) }
     ensures flushed { IfOk result (λ worked. OnOk worked.work (W.flushed writer.new)) }
 
     ensures lost { IfErr result (λ e. ForEachStart S.Store desk (R.remaining reader.old)
@@ -69,7 +69,7 @@ fn follow_and_tell<S: Alter + Drop, R: BufRead, W: Buffered>(
                 Ok(calls) => Ok(tell(desk, calls, writer)),
                 Err(fault) => Ok(Worked {
                     desk,
-                    work: Err(row(fault)),
+                    work: Err(fault_row(fault)),
                 }),
             }
         }
@@ -87,7 +87,7 @@ fn follow_and_close<D: Disk + Drop, R: BufRead, W: Buffered>(
 ) -> Ended<D>
     ensures ran { RunsOn D.Disk desk (R.remaining reader.old)
         (W.contents writer.old) (W.contents writer.new) watch.new result }
-    ensures done { IfOk result.work (λ outcome. outcome ≡ Outcome.Done) }
+    ensures done { IfOk result.work (λ outcome. outcome ≡ WorkOutcome.Done) }
     ensures flushed { OnOk result.work (W.flushed writer.new) }
     ensures closing { IfSome result.closing (IsRow IsClosingRefusal) }
     ensures let_go { IfErr result.work (λ fault. IsLasting fault.refusal → result.closing ≡ None) }
@@ -114,7 +114,7 @@ fn follow_on_desk<D: Disk + Drop, R: BufRead, W: Buffered>(
         (W.contents writer.old) (W.contents writer.new) watch.new result desk }
     ensures owner { IfErr result.work (λ fault. fault.refusal ≡ Refusal.Owner
         → (reader.new ≡ reader.old) × (watch.new ≡ watch.old) × (writer.new ≡ writer.old)) }
-    ensures done { IfOk result.work (λ outcome. outcome ≡ Outcome.Done) }
+    ensures done { IfOk result.work (λ outcome. outcome ≡ WorkOutcome.Done) }
     ensures flushed { OnOk result.work (W.flushed writer.new) }
     ensures closing { IfSome result.closing (IsRow IsClosingRefusal) }
     ensures let_go { IfErr result.work (λ fault. IsLasting fault.refusal → result.closing ≡ None) }
@@ -150,7 +150,7 @@ pub fn follow_input<S: Start, R: Read + Drop, W: Buffered>(
         ⊎ AtFoundOrMade S.Start owner.now (Follows ⟦<FileFrom<S> as Disk>⟧ owner.now
         (R.remaining reader)
         (W.contents writer.old) (W.contents writer.new) watch.new result) }
-    ensures done { IfOk result.work (λ outcome. outcome ≡ Outcome.Done) }
+    ensures done { IfOk result.work (λ outcome. outcome ≡ WorkOutcome.Done) }
     ensures flushed { OnOk result.work (W.flushed writer.new) }
     ensures named { IfErr result.work (IsFollowRow watch.new) }
     ensures first { IfErr result.work (λ fault. IsOfFinding fault.refusal

@@ -2,8 +2,8 @@
 //! It has no clauses.
 use crate::follow_input;
 use cli_audit::LineWatch;
-use cli_lines::{Buffered, Ending, open_file};
-use desk_bytes::{Guid, Refusal};
+use cli_output::{Buffered, Ending, open_file};
+use base::{Guid, Refusal};
 use sqlite::Unknown;
 use std::io::BufWriter;
 

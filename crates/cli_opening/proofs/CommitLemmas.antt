@@ -9,8 +9,8 @@ use Rattle.sqlite.specs.State.{State, HasCleanDisk, IsLive, Survives}
 use Rattle.sqlite.specs.Store.{Ghosts}
 use Rattle.sqlite_catalog.specs.Listing.{AreListed}
 use Rattle.sqlite_trees.specs.Objects.{catalog_tree}
-use Rattle.desk_bytes.specs.declared.refusal.Refusal.{Refusal}
-use Rattle.desk_bytes.specs.declared.refusal.Refusal.TheVariants as refusals
+use Rattle.base.specs.declared.refusal.Refusal.{Refusal}
+use Rattle.base.specs.declared.refusal.Refusal.TheVariants as refusals
 use Rattle.desk_history.specs.Calls.{History}
 use Rattle.desk_history.specs.Formed.{IsHistory}
 use Rattle.store_reads.specs.Failures.{IsFailure}
@@ -21,9 +21,9 @@ use Rattle.store_sql.specs.Contents.{AreTablesOf, Contents, IsDatabaseIn}
 use Rattle.store_sql.specs.Layouts.{Fits, Layout}
 use Rattle.store_sql.specs.States.{Leaves, Shows, Spares}
 use Rattle.store_sql.proofs.ContentLemmas.{catalog_of}
-use Rattle.desk_store.specs.Desks.{ShowsDesk}
-use Rattle.desk_store.specs.Steps.{Brings}
-use Rattle.desk_store.specs.declared.desk.Desk.{Desk}
+use Rattle.store_desk.specs.Desks.{ShowsDesk}
+use Rattle.store_desk.specs.Steps.{Brings}
+use Rattle.store_desk.specs.declared.desk.Desk.{Desk}
 use Rattle.cli_opening.specs.Faults.{IsFindingRefusal, IsMakingRefusal}
 use Rattle.cli_opening.specs.Opening.{FindsOrMakes, HoldsTables, Makes, Opens}
 use Rattle.cli_opening.specs.Refusing.{RefusesDesk, RefusesFinding, RefusesMaking}

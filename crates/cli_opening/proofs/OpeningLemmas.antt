@@ -10,14 +10,14 @@ use Rattle.sqlite_disk.specs.declared.start.Start as start
 use Rattle.sqlite_store.specs.declared.store.FileStore.{FileStore}
 use Rattle.sqlite_trees.specs.Props.{Trees-set}
 use Rattle.sqlite_wal.specs.Files.{image_at}
-use Rattle.desk_bytes.specs.declared.refusal.Refusal.{Refusal}
+use Rattle.base.specs.declared.refusal.Refusal.{Refusal}
 use Rattle.desk_history.specs.Calls.{History}
 use Rattle.desk_history.specs.Formed.{IsHistory}
 use Rattle.desk_history.specs.Lives.{Life}
 use Rattle.store_reads.specs.Failures.{IsFailure}
 use Rattle.store_sql.specs.States.{Leaves}
-use Rattle.desk_store.specs.Headline.{FindsLives, HoldsLives, Seen}
-use Rattle.desk_store.specs.declared.desk.Desk.{Desk}
+use Rattle.store_desk.specs.Headline.{FindsLives, HoldsLives, Seen}
+use Rattle.store_desk.specs.declared.desk.Desk.{Desk}
 use Rattle.cli_opening.specs.Opening.{ConnectsTo, FindsOrMakes, HoldsDesk, HoldsLivesIn, HoldsTables, IsFoundOrMade, IsOpened, Opens}
 use Rattle.cli_opening.specs.Refusing.{IsRefusedOver}
 

@@ -6,20 +6,20 @@ use Rattle.sqlite_disk.specs.declared.Files.{Files}
 use Rattle.sqlite_store.specs.declared.store.FileStore.{FileStore}
 use Rattle.sqlite_wal.specs.Reads.{AreClean}
 use Rattle.desk_history.specs.Calls.{History}
-use Rattle.cli_lines.specs.declared.fault.Fault.{Fault}
-use Rattle.desk_store.specs.Closed.{AreClosed, OpenAgain}
-use Rattle.desk_store.specs.Desks.{ShowsDesk}
-use Rattle.desk_store.specs.declared.desk.Desk.{Desk}
+use Rattle.cli_output.specs.declared.fault.Fault.{Fault}
+use Rattle.store_desk.specs.Closed.{AreClosed, OpenAgain}
+use Rattle.store_desk.specs.Desks.{ShowsDesk}
+use Rattle.store_desk.specs.declared.desk.Desk.{Desk}
 use Rattle.cli_opening.specs.Faults.{IsLasting}
-use Rattle.cli_lines.specs.declared.ending.Ending.{Ending}
-use Rattle.cli_lines.specs.declared.ending.Outcome.{Outcome}
+use Rattle.cli_output.specs.declared.ending.Ending.{Ending}
+use Rattle.cli_output.specs.declared.ending.WorkOutcome.{WorkOutcome}
 
 -- own: the work ended with a fault after which the desk must be opened again
-abbrev pub FailsForGood : Result Outcome Fault → Type 0
+abbrev pub FailsForGood : Result WorkOutcome Fault → Type 0
 FailsForGood work = MatchResult work (λ _. ⊥) (λ fault. IsLasting fault.refusal)
 
 -- own: it didn't end so
-abbrev pub LeavesUsable : Result Outcome Fault → Type 0
+abbrev pub LeavesUsable : Result WorkOutcome Fault → Type 0
 LeavesUsable work = IfErr work (λ fault. IsLasting fault.refusal → ⊥)
 
 module _ {D : Type 0} (g : Ghosts D) (desk : Desk (FileStore D g)) where

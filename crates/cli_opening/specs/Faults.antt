@@ -1,10 +1,10 @@
 -- The refusals of a desk's file.
 use Rattle.std.specs.Prelude.{◌≡◌, ◌⊎◌}
-use Rattle.desk_bytes.specs.declared.refusal.Refusal.{Refusal}
-use Rattle.desk_bytes.specs.declared.refusal.Refusal.TheVariants as refusals
-use Rattle.cli_lines.specs.Faults.{IsFileRefusal}
+use Rattle.base.specs.declared.refusal.Refusal.{Refusal}
+use Rattle.base.specs.declared.refusal.Refusal.TheVariants as refusals
+use Rattle.cli_output.specs.Faults.{IsFileRefusal}
 use Rattle.store_reads.specs.Failures.{IsFailure}
-use Rattle.desk_store.specs.Steps.{IsReadRefusal}
+use Rattle.store_desk.specs.Steps.{IsReadRefusal}
 
 -- own: no desk is made: the file fails, a name of the desk's is taken in it, or a device fails
 abbrev pub IsMakingRefusal : Refusal → Type 0

@@ -8,9 +8,9 @@ use Rattle.sqlite_store.specs.declared.store.FileStore.{FileStore}
 use Rattle.sqlite_trees.specs.View.{IsClean, IsQuiet}
 use Rattle.desk_history.specs.Calls.{History}
 use Rattle.store_schema.specs.rows.Histories.{HoldsHistory}
-use Rattle.desk_store.specs.Desks.{ShowsDesk}
-use Rattle.desk_store.specs.declared.desk.Desk.{Desk}
-use Rattle.cli_lines.specs.declared.ending.Ending.{Ending}
+use Rattle.store_desk.specs.Desks.{ShowsDesk}
+use Rattle.store_desk.specs.declared.desk.Desk.{Desk}
+use Rattle.cli_output.specs.declared.ending.Ending.{Ending}
 use Rattle.cli_opening.specs.Closing.{AreOfClosed, FailsForGood}
 use Rattle.cli_opening.specs.declared.ended.Ended.{Ended}
 use Rattle.cli_opening.specs.declared.left.Rest.{Rest}

@@ -25,10 +25,10 @@ use Rattle.desk_history.specs.Lives.{Life, events_of}
 use Rattle.store_sql.specs.States.{Spares}
 use Rattle.store_schema.specs.Names.{takes_a_desk_name}
 use Rattle.store_schema.specs.Tables.{no_schema}
-use Rattle.desk_store.specs.Desks.{ShowsDesk}
-use Rattle.desk_store.specs.Founding.{Founded, HasFoundedBeside}
-use Rattle.desk_store.specs.Headline.{FindsLives, HoldsLives, IsRecovered, Recovers, Seen}
-use Rattle.desk_store.specs.declared.desk.Desk.{Desk}
+use Rattle.store_desk.specs.Desks.{ShowsDesk}
+use Rattle.store_desk.specs.Founding.{Founded, HasFoundedBeside}
+use Rattle.store_desk.specs.Headline.{FindsLives, HoldsLives, IsRecovered, Recovers, Seen}
+use Rattle.store_desk.specs.declared.desk.Desk.{Desk}
 
 -- the trees hold the tables of this history, of either version
 abbrev pub HoldsTables : Trees → List ℕ → History → Type 0

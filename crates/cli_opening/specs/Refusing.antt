@@ -8,8 +8,8 @@ use Rattle.sqlite_disk.specs.declared.Disk as disk
 use Rattle.sqlite_disk.specs.declared.start.Start as start
 use Rattle.sqlite_store.specs.declared.store.FileStore.{FileStore}
 use Rattle.sqlite_wal.specs.Files.{image_at}
-use Rattle.desk_bytes.specs.declared.refusal.Refusal.{Refusal}
-use Rattle.desk_bytes.specs.declared.refusal.Refusal.TheVariants as refusals
+use Rattle.base.specs.declared.refusal.Refusal.{Refusal}
+use Rattle.base.specs.declared.refusal.Refusal.TheVariants as refusals
 use Rattle.desk_history.specs.Calls.{History}
 use Rattle.desk_history.specs.Formed.{IsHistory}
 use Rattle.store_migration.specs.Migrations.{KeepsShown}
@@ -18,10 +18,10 @@ use Rattle.store_schema.specs.Names.{takes_a_desk_name}
 use Rattle.store_schema.specs.Tables.{no_schema}
 use Rattle.store_schema.specs.rows.Histories.{ShowsHistory}
 use Rattle.store_sql.specs.States.{Leaves, Spares}
-use Rattle.desk_store.specs.Founding.{Founded}
-use Rattle.desk_store.specs.Reopening.{FindsADesk}
-use Rattle.desk_store.specs.Steps.{Brings, FindsNone, FindsOther}
-use Rattle.cli_lines.specs.Faults.{IsFileRefusal}
+use Rattle.store_desk.specs.Founding.{Founded}
+use Rattle.store_desk.specs.Reopening.{FindsADesk}
+use Rattle.store_desk.specs.Steps.{Brings, FindsNone, FindsOther}
+use Rattle.cli_output.specs.Faults.{IsFileRefusal}
 use Rattle.cli_opening.specs.Opening.{ConnectsTo, HoldsDesk, HoldsTables}
 use Rattle.cli_opening.specs.declared.left.Rest.{Rest}
 use Rattle.cli_opening.specs.declared.left.Rest.TheVariants.{Broken, Closed, Nothing, Unclosed}

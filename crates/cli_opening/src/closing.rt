@@ -1,15 +1,15 @@
 //! A desk's file, closed.
 ghost use Rattle.std.specs.Prelude.{◌≡◌, None, IfErr, IfOk, IfSome, true};
-ghost use Rattle.cli_lines.specs.Faults.{IsRow};
+ghost use Rattle.cli_output.specs.Faults.{IsRow};
 ghost use Rattle.cli_opening.specs.Closing.{AreOfClosed, Ends, FailsForGood};
 ghost use Rattle.cli_opening.specs.Faults.{IsClosingRefusal, IsLasting};
 ghost use Rattle.cli_opening.specs.Leaving.{IsLeft, IsOfBroken, ending_of};
 
 use crate::ended::Ended;
 use crate::left::Left;
-use cli_lines::{Fault, Outcome};
-use desk_bytes::Refusal;
-use desk_store::Desk;
+use cli_output::{Fault, WorkOutcome};
+use base::Refusal;
+use store_desk::Desk;
 use sqlite::{FileStore, Files};
 use sqlite_disk::Disk;
 
@@ -35,7 +35,7 @@ fn is_lasting(refusal: Refusal) -> bool
 }
 
 /// Whether the desk must be opened again after this work, so that it can't be closed.
-fn needs_reopening(work: &Result<Outcome, Fault>) -> bool
+fn needs_reopening(work: &Result<WorkOutcome, Fault>) -> bool
     ensures lasting { IfErr work.now (λ fault. IsLasting fault.refusal → result ≡ true) }
     ensures only { result ≡ true → FailsForGood work.now }
 {
@@ -49,7 +49,7 @@ fn needs_reopening(work: &Result<Outcome, Fault>) -> bool
 /// stored.
 pub fn close_after<D: Disk + Drop>(
     desk: Desk<FileStore<D>>,
-    work: Result<Outcome, Fault>,
+    work: Result<WorkOutcome, Fault>,
 ) -> Ended<D>
     ensures work { result.work ≡ work }
     ensures closed { Ends D.Disk desk (ending_of result) }

@@ -7,7 +7,7 @@ ghost use Rattle.sqlite.specs.State.{HasCleanDisk};
 ghost use Rattle.sqlite_std_file.specs.File.{IsFresh, file_is_usable};
 ghost use Rattle.sqlite_wal.specs.Files.{image_at};
 
-use desk_bytes::Refusal;
+use base::Refusal;
 use sqlite::{Connection, Error, ErrorCode, FileFrom, FileStore, Files, Options, Start};
 use sqlite_std_file::OpenError;
 use std::fs;
@@ -16,7 +16,7 @@ use std::io::ErrorKind;
 
 /// The pages of a file that the store has room for in memory. It takes this memory at once.
 #[derive(Clone, Copy, Debug, PartialEq, Eq)]
-pub enum Room {
+pub enum CacheSize {
     /// Those that the file has and 64 more, at most 8,192, of 4,096 bytes each.
     AsItIs,
     /// 8,192, for a file that grows.
@@ -34,12 +34,12 @@ const MOST_PAGES: u64 = 8_192;
 const MORE_PAGES: u64 = 64;
 
 /// The pages that the store has room for, where the file has so many bytes.
-fn pages(room: Room, bytes: u64) -> u64
+fn pages(room: CacheSize, bytes: u64) -> u64
     ensures { result ≡ pages_for room bytes }
 {
     match room {
-        Room::AsItIs => (bytes / PAGE + MORE_PAGES).min(MOST_PAGES),
-        Room::ToGrow => MOST_PAGES,
+        CacheSize::AsItIs => (bytes / PAGE + MORE_PAGES).min(MOST_PAGES),
+        CacheSize::ToGrow => MOST_PAGES,
     }
 }
 
@@ -101,7 +101,7 @@ fn refusal_of(error: &Error) -> Refusal
 pub fn connect<S: Start>(
     rt: &HostRuntime,
     path: &str,
-    room: Room,
+    room: CacheSize,
     start: S,
 ) -> Result<Connection<FileStore<FileFrom<S>>>, Refusal>
     ensures outside { IfOk result (λ conn. conn.in_transaction ≡ false) }

@@ -2,17 +2,17 @@
 //! first: `start` names that (specs/Opening.antt).
 ghost use Rattle.std.specs.Prelude.{◌≡◌, IfErr, IfOk, IsTrue, false};
 ghost use Rattle.store_schema.specs.Tables.{no_schema};
-ghost use Rattle.cli_lines.specs.Faults.{IsFileRefusal};
+ghost use Rattle.cli_output.specs.Faults.{IsFileRefusal};
 ghost use Rattle.cli_opening.specs.Faults.{IsFindingRefusal, IsMakingRefusal, IsOpeningRefusal};
 ghost use Rattle.cli_opening.specs.Opening.{FindsOrMakes, IsFoundOrMade, IsMade, IsOpened, Makes, Opens};
 ghost use Rattle.cli_opening.specs.Refusing.{IsNotFound, IsNotMade, IsNotOpened};
 ghost use Rattle.cli_opening.specs.Refusing.{RefusesDesk, RefusesFinding, RefusesMaking};
 
-use crate::connecting::{Room, connect};
+use crate::connecting::{CacheSize, connect};
 use crate::last_commit::last_commit_is_shown;
 use crate::left::Left;
-use desk_bytes::{Guid, Refusal};
-use desk_store::Desk;
+use base::{Guid, Refusal};
+use store_desk::Desk;
 use sqlite::{Alter, Connection, FileFrom, FileStore, Start};
 use sqlite_disk::Disk;
 use sqlite_schema::schema::Schema;
@@ -85,7 +85,7 @@ fn make_there<S: Start>(
         IsNotMade ⟦<FileFrom<S> as Disk>⟧ S.Start owner.now e.0 e.1.rest) }
     ensures named { IfErr result (λ e. IsMakingRefusal e.0) }
 {
-    match connect(rt, path, Room::AsItIs, start) {
+    match connect(rt, path, CacheSize::AsItIs, start) {
         Ok(conn) => match make_over(rt.alloc(), conn, owner) {
             Ok(desk) => Ok(desk),
             Err((refusal, unmade)) => Err((refusal, Left::unclosed(unmade))),
@@ -141,7 +141,7 @@ fn open_there<S: Start>(
     rt: &HostRuntime,
     path: &str,
     start: S,
-    room: Room,
+    room: CacheSize,
 ) -> Result<FileDesk<S>, (Refusal, Left<FileFrom<S>>)>
     ensures opened { IfOk result (IsOpened ⟦<FileFrom<S> as Disk>⟧ S.Start) }
     ensures refused { IfErr result (λ e.
@@ -167,7 +167,7 @@ pub fn open<S: Start>(
     rt: &HostRuntime,
     path: &str,
     start: S,
-    room: Room,
+    room: CacheSize,
 ) -> Result<FileDesk<S>, (Refusal, Left<FileFrom<S>>)>
     ensures opened { IfOk result (IsOpened ⟦<FileFrom<S> as Disk>⟧ S.Start) }
     ensures refused { IfErr result (λ e.
@@ -234,7 +234,7 @@ fn found_there<S: Start>(
         IsNotFound ⟦<FileFrom<S> as Disk>⟧ S.Start owner.now e.0 e.1.rest) }
     ensures named { IfErr result (λ e. IsFindingRefusal e.0) }
 {
-    match connect(rt, path, Room::ToGrow, start) {
+    match connect(rt, path, CacheSize::ToGrow, start) {
         Ok(conn) => match found_or_made(rt.alloc(), conn, owner) {
             Ok(desk) => Ok(desk),
             Err((refusal, unfound)) => Err((refusal, Left::unclosed(unfound))),

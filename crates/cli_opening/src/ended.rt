@@ -1,19 +1,19 @@
 //! The end of a subcommand over a desk's file, with what is left of its files.
 ghost use Rattle.std.specs.Prelude.{◌≡◌, Err, None};
-ghost use Rattle.cli_lines.specs.Endings.{unopened};
-ghost use Rattle.cli_lines.specs.Faults.{row_of};
+ghost use Rattle.cli_output.specs.Endings.{unopened};
+ghost use Rattle.cli_output.specs.Faults.{row_of};
 ghost use Rattle.cli_opening.specs.Leaving.{ending_of};
 
 use crate::left::Left;
-use cli_lines::{Ending, Fault, Outcome};
-use desk_bytes::Refusal;
+use cli_output::{Ending, Fault, WorkOutcome};
+use base::Refusal;
 use sqlite_disk::Disk;
 
 /// The end of a subcommand over a desk's file, with what is left of its files.
 #[derive(Drop)]
 pub struct Ended<D: Disk> {
     /// The outcome of its work, or the fault that stopped it.
-    pub work: Result<Outcome, Fault>,
+    pub work: Result<WorkOutcome, Fault>,
     /// The fault of closing the desk afterwards.
     pub closing: Option<Fault>,
     /// What is left of the desk's files.

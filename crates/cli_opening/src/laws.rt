@@ -2,13 +2,13 @@
 ghost use Rattle.std.specs.Prelude.{◌≡◌, ℕ, List, Some};
 ghost use Rattle.sqlite_wal.specs.Recovery.{Image};
 ghost use Rattle.desk_history.specs.Calls.{History};
-ghost use Rattle.desk_store.specs.Closed.{HoldsClosed};
-ghost use Rattle.cli_lines.specs.Endings.{status_of_ending};
-ghost use Rattle.cli_lines.specs.Faults.{IsRow};
+ghost use Rattle.store_desk.specs.Closed.{HoldsClosed};
+ghost use Rattle.cli_output.specs.Endings.{status_of_ending};
+ghost use Rattle.cli_output.specs.Faults.{IsRow};
 ghost use Rattle.cli_opening.specs.Faults.{IsClosingRefusal};
 ghost use Rattle.cli_opening.specs.Opening.{HoldsDesk};
 
-use cli_lines::{Ending, Fault};
+use cli_output::{Ending, Fault};
 
 /// A desk that couldn't be closed ends its subcommand with status 3, whatever the outcome of its
 /// work.

@@ -11,7 +11,7 @@ mod left;
 mod working;
 
 pub use closing::close_after;
-pub use connecting::{Room, connect};
+pub use connecting::{CacheSize, connect};
 pub use desk_file::{FileDesk, make, open, open_or_make};
 pub use ended::Ended;
 pub use laws::{a_failed_close_is_a_device, closed_files_hold_the_desk};

@@ -3,10 +3,10 @@
 ghost use Rattle.std.specs.Prelude.{◌≡◌, ◌⊎◌, Result, None, IfErr, IfOk, IfSome, OnErr, OnOk};
 ghost use Rattle.sqlite.specs.Files.{over_files};
 ghost use Rattle.sqlite.specs.Store.{Ghosts};
-ghost use Rattle.cli_lines.specs.Faults.{IsRow};
-ghost use Rattle.cli_lines.specs.declared.ending.Outcome.{Outcome as Came};
-ghost use Rattle.cli_lines.specs.declared.fault.Fault.{Fault as Row};
-ghost use Rattle.desk_store.specs.declared.desk.Desk.{Desk as Shown};
+ghost use Rattle.cli_output.specs.Faults.{IsRow};
+ghost use Rattle.cli_output.specs.declared.ending.WorkOutcome.{WorkOutcome as Came};
+ghost use Rattle.cli_output.specs.declared.fault.Fault.{Fault as Row};
+ghost use Rattle.store_desk.specs.declared.desk.Desk.{Desk as Shown};
 ghost use Rattle.cli_opening.specs.Faults.{IsClosingRefusal, IsLasting, IsMakingRefusal};
 ghost use Rattle.cli_opening.specs.Faults.{IsOfOpening, IsOpeningRefusal};
 ghost use Rattle.cli_opening.specs.Leaving.{ending_of};
@@ -15,19 +15,19 @@ ghost use Rattle.cli_opening.specs.Works.{IsUnopened, LeavesUnopened, MakesDesk}
 ghost use Rattle.cli_opening.specs.Works.{WorksLeaving, WorksOn, WorksOnLeaving};
 
 use crate::closing::close_after;
-use crate::connecting::Room;
+use crate::connecting::CacheSize;
 use crate::desk_file::{make, open};
 use crate::ended::Ended;
-use cli_lines::{Ending, Fault, Outcome};
-use desk_bytes::Guid;
-use desk_store::Desk;
+use cli_output::{Ending, Fault, WorkOutcome};
+use base::Guid;
+use store_desk::Desk;
 use sqlite::{Alter, FileFrom, FileStore, Start};
 use sqlite_disk::Disk;
 
 /// A desk, and the result of a subcommand's work on it.
 pub struct Worked<S: Alter> {
     pub desk: Desk<S>,
-    pub work: Result<Outcome, Fault>,
+    pub work: Result<WorkOutcome, Fault>,
 }
 
 /// The work of a subcommand on an open desk, over any store.
@@ -88,7 +88,7 @@ pub fn work_on_desk<S: Start, W: Work>(
     rt: &HostRuntime,
     path: &str,
     start: S,
-    room: Room,
+    room: CacheSize,
     work: W,
     output: &mut W::Output,
 ) -> Ended<FileFrom<S>>
@@ -122,7 +122,7 @@ pub fn on_desk<S: Start, W: Work>(
     rt: &HostRuntime,
     path: &str,
     start: S,
-    room: Room,
+    room: CacheSize,
     work: W,
     output: &mut W::Output,
 ) -> Ending
@@ -152,7 +152,7 @@ pub fn make_desk<S: Start>(
     start: S,
     owner: &Guid,
 ) -> Ended<FileFrom<S>>
-    ensures done { IfOk result.work (λ outcome. outcome ≡ Outcome.Done) }
+    ensures done { IfOk result.work (λ outcome. outcome ≡ WorkOutcome.Done) }
     ensures named { IfErr result.work (IsRow IsMakingRefusal) }
     ensures made { OnOk result.work (MakesDesk ⟦<FileFrom<S> as Disk>⟧ S.Start owner.now result) }
     ensures unmade { IfErr result.work (λ fault. IsNotMade ⟦<FileFrom<S> as Disk>⟧ S.Start owner.now
@@ -161,7 +161,7 @@ pub fn make_desk<S: Start>(
     ensures closing { IfSome result.closing (IsRow IsClosingRefusal) }
 {
     match make(rt, path, start, owner) {
-        Ok(desk) => close_after(desk, Ok(Outcome::Done)),
+        Ok(desk) => close_after(desk, Ok(WorkOutcome::Done)),
         Err((refusal, left)) => Ended::without_desk(refusal, left),
     }
 }

@@ -1,6 +1,6 @@
 -- Refusals that stop a subcommand at an open desk: none of them is an opening's.
 use Rattle.std.proofs.Common.{arith}
-use Rattle.desk_bytes.specs.declared.refusal.Refusal.{Refusal}
+use Rattle.base.specs.declared.refusal.Refusal.{Refusal}
 use Rattle.http_net.specs.Faults.{IsAnsweringRefusal, IsServingRefusal}
 use Rattle.cli_opening.specs.Faults.{IsOfOpening}
 

@@ -7,30 +7,30 @@ use Rattle.sqlite.specs.Store as store
 use Rattle.sqlite_disk.specs.declared.Disk.{Ghosts}
 use Rattle.sqlite_store.specs.declared.store.FileStore.{FileStore}
 use Rattle.desk_answers.specs.declared.open_desk.OpenDesk.{OpenDesk}
-use Rattle.desk_bytes.specs.declared.refusal.Refusal.{Refusal}
-use Rattle.desk_bytes.specs.declared.refusal.Refusal.TheVariants as refusals
-use Rattle.desk_http.specs.Serving.{AnswersOne}
-use Rattle.desk_http.specs.declared.served.HttpFault.{HttpFault}
-use Rattle.desk_http.specs.declared.served.Served.{Served}
-use Rattle.cli_lines.specs.Faults.{row_of}
-use Rattle.cli_lines.specs.declared.fault.Fault.{Fault}
+use Rattle.base.specs.declared.refusal.Refusal.{Refusal}
+use Rattle.base.specs.declared.refusal.Refusal.TheVariants as refusals
+use Rattle.http_exchange.specs.Serving.{AnswersOne}
+use Rattle.http_exchange.specs.declared.served.HttpFault.{HttpFault}
+use Rattle.http_exchange.specs.declared.served.Served.{Served}
+use Rattle.cli_output.specs.Faults.{row_of}
+use Rattle.cli_output.specs.declared.fault.Fault.{Fault}
 use Rattle.http_net.specs.Served as served
 use Rattle.http_net.specs.Turns.{ServesInTurn}
 use Rattle.http_net.specs.Wire.{IsOneRequest}
-use Rattle.desk_store.specs.Desks.{ShowsDesk}
-use Rattle.desk_store.specs.declared.desk.Desk.{Desk}
+use Rattle.store_desk.specs.Desks.{ShowsDesk}
+use Rattle.store_desk.specs.declared.desk.Desk.{Desk}
 use Rattle.cli_opening.specs.Works.{WorksAt}
-use Rattle.cli_lines.specs.declared.ending.Ending.{Ending}
-use Rattle.cli_lines.specs.declared.ending.Outcome.{Outcome}
-use Rattle.cli_lines.specs.declared.ending.Outcome.TheVariants.{Done}
+use Rattle.cli_output.specs.declared.ending.Ending.{Ending}
+use Rattle.cli_output.specs.declared.ending.WorkOutcome.{WorkOutcome}
+use Rattle.cli_output.specs.declared.ending.WorkOutcome.TheVariants.{Done}
 
 -- own: the result of a program that serves connections, as a subcommand's work
-abbrev pub work_of : Result Unit Refusal → Result Outcome Fault
+abbrev pub work_of : Result Unit Refusal → Result WorkOutcome Fault
 work_of (Ok served) = Ok Done
 work_of (Err refusal) = Err (row_of refusal)
 
 -- one connection was served so, as a subcommand's work
-abbrev pub WorksOnce : {D : Type 0} → (D → D → Result Served HttpFault → Type 0) → D → D → Result Outcome Fault → Type 0
+abbrev pub WorksOnce : {D : Type 0} → (D → D → Result Served HttpFault → Type 0) → D → D → Result WorkOutcome Fault → Type 0
 WorksOnce answers old new work = (came : Result Served HttpFault) × (work ≡ work_of (served.outcome_of came)) × answers old new came
 
 -- this many connections were served in turn, as `ServesInTurn` says; or the port couldn't be
@@ -39,7 +39,7 @@ abbrev pub ServesPort : {D : Type 0} → (D → D → Result Served HttpFault �
 ServesPort serves count old new told = ((told ≡ Err refusals.Read) × (new ≡ old)) ⊎ ServesInTurn serves count old new told
 
 -- the same, as a subcommand's work
-abbrev pub WorksInTurn : {D : Type 0} → (D → D → Result Served HttpFault → Type 0) → ℕ → D → D → Result Outcome Fault → Type 0
+abbrev pub WorksInTurn : {D : Type 0} → (D → D → Result Served HttpFault → Type 0) → ℕ → D → D → Result WorkOutcome Fault → Type 0
 WorksInTurn serves count old new work = (told : Result Unit Refusal) × (work ≡ work_of told) × ServesPort serves count old new told
 
 module _ {S : Type 0} (g : store.Ghosts S) where
@@ -54,7 +54,7 @@ module _ {S : Type 0} (g : store.Ghosts S) where
       (λ kept. HasCleanDisk (state g kept.desk.conn)) (λ kept. kept.desk.needs_reopening ≡ true)
 
   -- this was done by the desk, as one that answers calls
-  pub record ByCalls (did : OpenDesk S → OpenDesk S → Result Outcome Fault → Type 0) (desk left : Desk S) (work : Result Outcome Fault) : Type 0 where
+  pub record ByCalls (did : OpenDesk S → OpenDesk S → Result WorkOutcome Fault → Type 0) (desk left : Desk S) (work : Result WorkOutcome Fault) : Type 0 where
     pub opened : OpenDesk S
     pub closed : OpenDesk S
     pub before : opened.desk ≡ desk

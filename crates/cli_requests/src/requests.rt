@@ -3,22 +3,22 @@ ghost use Rattle.std.specs.Prelude.{◌≡◌, ◌⊎◌, None, IfErr, IfOk, IfS
 ghost use Rattle.std.specs.Io.KnownBytes.{Keeps};
 ghost use Rattle.http_net.specs.Faults.{IsAnsweringRefusal, IsServingRefusal};
 ghost use Rattle.http_net.specs.Wire.{IsOneRequest};
-ghost use Rattle.cli_lines.specs.Faults.{IsRow};
+ghost use Rattle.cli_output.specs.Faults.{IsRow};
 ghost use Rattle.cli_opening.specs.Faults.{IsClosingRefusal, IsLasting, IsOfOpening};
 ghost use Rattle.cli_opening.specs.Faults.{IsOpeningRefusal};
 ghost use Rattle.cli_opening.specs.Works.{AtADesk, IsUnopened};
-ghost use Rattle.cli_lines.specs.declared.ending.Outcome.TheVariants.{Done};
+ghost use Rattle.cli_output.specs.declared.ending.WorkOutcome.TheVariants.{Done};
 ghost use Rattle.cli_requests.specs.Works.{AnswersOnce, AnswersRequest, ByCalls};
 ghost use Rattle.cli_requests.specs.Works.{Serves, ServesRequest, WorksInTurn, WorksOnce};
-ghost use Rattle.desk_http.specs.Serving.{AnswersOne};
+ghost use Rattle.http_exchange.specs.Serving.{AnswersOne};
 
-use cli_lines::{Ending, Fault, Outcome};
-use cli_opening::{Room, Work, Worked, on_desk};
+use cli_output::{Ending, Fault, WorkOutcome};
+use cli_opening::{CacheSize, Work, Worked, on_desk};
 use desk_answers::OpenDesk;
-use desk_bytes::Refusal;
-use desk_calls::Answering;
-use desk_http::Intake;
-use desk_store::Desk;
+use base::Refusal;
+use http_calls::AnswersCalls;
+use http_exchange::RequestReader;
+use store_desk::Desk;
 use http_net::{answer_connection, listen, serve};
 use http_requests::Routes;
 use sqlite::{Alter, FileFrom, Start};
@@ -28,21 +28,21 @@ use std::io::{Read, Write};
 use std::marker::PhantomData;
 
 /// Answers one request of the reader, as a subcommand's work.
-fn answer_one<D: Answering, R: Read + Drop, W: Write>(
+fn answer_one<D: AnswersCalls, R: Read + Drop, W: Write>(
     alloc: Global,
     routes: &Routes,
     desk: &mut D,
     reader: R,
     writer: &mut W,
-) -> Result<Outcome, Fault>
+) -> Result<WorkOutcome, Fault>
     ensures answered { WorksOnce (AnswersOne D.shows D.clean D.failed (R.remaining reader)
         (W.contents writer.old) (W.contents writer.new)) desk.old desk.new result }
-    ensures done { IfOk result (λ outcome. outcome ≡ Outcome.Done) }
+    ensures done { IfOk result (λ outcome. outcome ≡ WorkOutcome.Done) }
     ensures named { IfErr result (IsRow IsAnsweringRefusal) }
 {
-    let mut intake = Intake::new();
+    let mut intake = RequestReader::new();
     match http_net::outcome(answer_connection(alloc, routes, desk, reader, &mut intake, writer)) {
-        Ok(()) => Ok(Outcome::Done),
+        Ok(()) => Ok(WorkOutcome::Done),
         Err(refusal) => Err(Fault::from(refusal)),
     }
 }
@@ -93,7 +93,7 @@ pub fn answer_from<S: Start, R: Read + Drop, W: Write>(
         × Keeps (W.contents writer.old) (W.contents writer.new))
         ⊎ AtADesk S.Start (AnswersOnce ⟦<FileFrom<S> as Disk>⟧ (R.remaining reader)
         (W.contents writer.old) (W.contents writer.new) result) }
-    ensures done { IfOk result.work (λ outcome. outcome ≡ Outcome.Done) }
+    ensures done { IfOk result.work (λ outcome. outcome ≡ WorkOutcome.Done) }
     ensures named { IfErr result.work (IsRow (λ refusal.
         IsOpeningRefusal refusal ⊎ IsAnsweringRefusal refusal)) }
     ensures first { IfErr result.work (λ fault. IsOfOpening fault.refusal
@@ -108,23 +108,23 @@ pub fn answer_from<S: Start, R: Read + Drop, W: Write>(
                 reader,
                 writer: PhantomData,
             };
-            on_desk(rt, path, start, Room::AsItIs, request, writer)
+            on_desk(rt, path, start, CacheSize::AsItIs, request, writer)
         }
         Err(_) => Ending::without_desk(Refusal::NoMemory),
     }
 }
 
 /// Serves `count` connections at this port of 127.0.0.1, for a desk, as a subcommand's work.
-fn serve_all<D: Answering>(
+fn serve_all<D: AnswersCalls>(
     rt: &HostRuntime,
     routes: &Routes,
     desk: &mut D,
     port: u16,
     count: u32,
-) -> Result<Outcome, Fault>
+) -> Result<WorkOutcome, Fault>
     ensures in_turn { WorksInTurn (IsOneRequest D.shows D.clean D.failed) count desk.old desk.new
         result }
-    ensures done { IfOk result (λ outcome. outcome ≡ Outcome.Done) }
+    ensures done { IfOk result (λ outcome. outcome ≡ WorkOutcome.Done) }
     ensures named { IfErr result (IsRow IsServingRefusal) }
 {
     let listener = match listen(rt, port) {
@@ -132,7 +132,7 @@ fn serve_all<D: Answering>(
         Err(refusal) => return Err(Fault::from(refusal)),
     };
     match serve(rt.alloc(), rt, routes, desk, &listener, count) {
-        Ok(()) => Ok(Outcome::Done),
+        Ok(()) => Ok(WorkOutcome::Done),
         Err(refusal) => Err(Fault::from(refusal)),
     }
 }
@@ -173,7 +173,7 @@ impl<'a> Work for Connections<'a> {
 pub fn serve_from<S: Start>(rt: &HostRuntime, path: &str, start: S, port: u16, count: u32) -> Ending
     ensures served { IsUnopened ⟦<FileFrom<S> as Disk>⟧ S.Start result
         ⊎ AtADesk S.Start (Serves ⟦<FileFrom<S> as Disk>⟧ count result) }
-    ensures done { IfOk result.work (λ outcome. outcome ≡ Outcome.Done) }
+    ensures done { IfOk result.work (λ outcome. outcome ≡ WorkOutcome.Done) }
     ensures named { IfErr result.work (IsRow (λ refusal.
         IsOpeningRefusal refusal ⊎ IsServingRefusal refusal)) }
     ensures first { IfErr result.work (λ fault. IsOfOpening fault.refusal → result.closing ≡ None) }
@@ -187,7 +187,7 @@ pub fn serve_from<S: Start>(rt: &HostRuntime, path: &str, start: S, port: u16, c
                 port,
                 count,
             };
-            on_desk(rt, path, start, Room::ToGrow, connections, &mut ())
+            on_desk(rt, path, start, CacheSize::ToGrow, connections, &mut ())
         }
         Err(_) => Ending::without_desk(Refusal::NoMemory),
     }

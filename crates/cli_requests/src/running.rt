@@ -1,6 +1,6 @@
 //! The subcommands for requests, on the standard streams.
 use crate::{answer_from, serve_from};
-use cli_lines::Ending;
+use cli_output::Ending;
 use sqlite::Unknown;
 
 /// Answers the request on the standard input: `answer_from`.

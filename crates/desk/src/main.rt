@@ -4,9 +4,9 @@
 use cli_audit::run_audit;
 use cli_files::{run_add, run_export, run_impact, run_init, run_verdict};
 use cli_follow::run_follow;
-use cli_lines::Ending;
+use cli_output::Ending;
 use cli_requests::{run_answer, run_serve};
-use cli_words::{Job, given_words, read_job, tell_ending};
+use cli_arguments::{Job, given_words, read_job, tell_ending};
 use std::process::ExitCode;
 
 /// Does a subcommand's job at a desk.

@@ -2,20 +2,20 @@
 use Rattle.std.proofs.Common.{◌≡◌, ◌≢◌, ◌⊎◌, ◌∙◌, inl, inr, ℕ, List, [], ◌∷◌, Bool, true, false, cond, filter, find, Option, Some, None, Result, Ok, Err, IsTrue, refl, subst, sym, ap}
 use Rattle.std.specs.Prelude.{IfErr, IfOk}
 use Rattle.sqlite.specs.Store as sqlite
-use Rattle.desk_bytes.specs.declared.refusal.Refusal.{Refusal}
-use Rattle.desk_bytes.specs.declared.refusal.Refusal.TheVariants as refusals
-use Rattle.desk_texts.specs.declared.command.Call.{Call}
-use Rattle.desk_texts.specs.declared.command.Person.{Person}
-use Rattle.desk_texts.specs.declared.reply.Reply.{Reply}
+use Rattle.base.specs.declared.refusal.Refusal.{Refusal}
+use Rattle.base.specs.declared.refusal.Refusal.TheVariants as refusals
+use Rattle.desk_types.specs.declared.command.Call.{TaskAsked}
+use Rattle.desk_types.specs.declared.command.Person.{Person}
+use Rattle.desk_types.specs.declared.reply.Reply.{Reply}
 use Rattle.desk_history.specs.Calls.{History}
 use Rattle.desk_history.specs.People.{has_token, people}
 use Rattle.desk_history.specs.Runs.{answer}
 use Rattle.desk_history.specs.declared.answer.Answer.TheVariants as ruled
 use Rattle.store_reads.specs.Reads.{listed}
-use Rattle.desk_store.specs.Desks.{Refuses, ShowsDesk}
-use Rattle.desk_store.specs.Showing as store
-use Rattle.desk_store.specs.declared.desk.Desk.{Desk}
-use Rattle.desk_calls.specs.Desks.{IsReadingRefusal, person_with}
+use Rattle.store_desk.specs.Desks.{Refuses, ShowsDesk}
+use Rattle.store_desk.specs.Showing as store
+use Rattle.store_desk.specs.declared.desk.Desk.{Desk}
+use Rattle.http_calls.specs.Desks.{IsReadingRefusal, person_with}
 use Rattle.desk_exports.specs.Readings.{may_refuse}
 use Rattle.desk_exports.specs.declared.reading.Reading.{Reading}
 use Rattle.desk_exports.specs.declared.reading.Reading.TheVariants as read
@@ -96,7 +96,7 @@ one_person (Err refusal) token shows all = tt
 
 -- ---- commands
 
-module _ {S : Type 0} (g : sqlite.Ghosts S) (old new : Desk S) (c : Call) where
+module _ {S : Type 0} (g : sqlite.Ghosts S) (old new : Desk S) (c : TaskAsked) where
   pub refused_rules : (given : Result Reply Refusal) → IfErr given (Refuses g old new c)
       → IfErr given (λ refusal. refusal ≢ refusals.NoMemory → refusal ≢ refusals.Store → (owner : List ℕ) (cs : History) → ShowsDesk g old owner cs → answer cs c ≡ ruled.Refused refusal)
   refused_rules (Ok reply) refuses = tt

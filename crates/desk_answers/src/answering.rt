@@ -2,18 +2,18 @@
 ghost use Rattle.std.specs.Prelude.{◌≡◌, true};
 ghost use Rattle.sqlite.specs.Held.{state};
 ghost use Rattle.sqlite.specs.State.{HasCleanDisk};
-ghost use Rattle.desk_store.specs.Desks.{ShowsDesk};
+ghost use Rattle.store_desk.specs.Desks.{ShowsDesk};
 
 use crate::open_desk::OpenDesk;
-use desk_bytes::{Digest, Refusal};
-use desk_calls::Answering;
+use base::{Digest, Refusal};
+use http_calls::AnswersCalls;
 use desk_exports::{Reading, Shown};
 use desk_history::Verdict;
-use desk_texts::{Caller, Command, Facts, Key, Person, Reply};
+use desk_types::{Caller, Command, Facts, Key, Person, Reply};
 use http_responses::RequestsText;
 use sqlite::Alter;
 
-impl<S: Alter + Drop> Answering for OpenDesk<S> {
+impl<S: Alter + Drop> AnswersCalls for OpenDesk<S> {
     ghost shows = { λ kept owner cs. ShowsDesk S.Store kept.desk owner cs };
 
     ghost clean = { λ kept. HasCleanDisk (state S.Store kept.desk.conn) };

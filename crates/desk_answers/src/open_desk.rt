@@ -1,7 +1,7 @@
 //! A desk that answers calls.
 ghost use Rattle.std.specs.Prelude.{◌≡◌};
 
-use desk_store::Desk;
+use store_desk::Desk;
 use sqlite::Alter;
 
 /// A desk in a store, as one that answers calls.

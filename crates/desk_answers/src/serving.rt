@@ -2,17 +2,17 @@
 ghost use Rattle.std.specs.Prelude.{◌≡◌, ℕ, List, true};
 ghost use Rattle.sqlite.specs.Held.{state};
 ghost use Rattle.sqlite.specs.State.{HasCleanDisk};
-ghost use Rattle.desk_calls.specs.Answers.{AnswersCall, IsClosed, Serves, store_failed};
+ghost use Rattle.http_calls.specs.Answers.{AnswersCall, IsClosed, Serves, store_failed};
 ghost use Rattle.desk_history.specs.Calls.{History};
-ghost use Rattle.desk_store.specs.Desks.{ShowsDesk};
+ghost use Rattle.store_desk.specs.Desks.{ShowsDesk};
 
 use crate::open_desk::OpenDesk;
-use desk_calls::{Answer, Call};
+use http_calls::{TaskAnswer, TaskAsked};
 use sqlite::Alter;
 use std::alloc::Global;
 
-/// Answers a call, as `desk_calls::answer` does.
-pub fn answer<S: Alter + Drop>(alloc: Global, desk: &mut OpenDesk<S>, call: Call) -> Answer
+/// Answers a call, as `http_calls::answer` does.
+pub fn answer<S: Alter + Drop>(alloc: Global, desk: &mut OpenDesk<S>, call: TaskAsked) -> TaskAnswer
     ensures served { HasCleanDisk (state S.Store desk.new.desk.conn)
         → (owner : List ℕ) (cs : History)
         → ShowsDesk S.Store desk.old.desk owner cs
@@ -24,5 +24,5 @@ pub fn answer<S: Alter + Drop>(alloc: Global, desk: &mut OpenDesk<S>, call: Call
     ensures closed { desk.old.desk.needs_reopening ≡ true
         → IsClosed (λ owner cs. AnswersCall owner cs call) result × (desk.new ≡ desk.old) }
 {
-    desk_calls::answer(alloc, desk, call)
+    http_calls::answer(alloc, desk, call)
 }

@@ -4,9 +4,9 @@ use Rattle.std.specs.Prelude.{nat_le, reverse}
 use Rattle.std.specs.Result.{result_map_both}
 use Rattle.std.proofs.lemmas.Bool.Decides.{nat_tests}
 use Rattle.std.proofs.lemmas.List.{reverse-append}
-use Rattle.desk_bytes.specs.declared.refusal.Refusal.{Refusal}
-use Rattle.desk_texts.specs.declared.command.Call.{Call}
-use Rattle.desk_texts.specs.declared.command.Person.{Person}
+use Rattle.base.specs.declared.refusal.Refusal.{Refusal}
+use Rattle.desk_types.specs.declared.command.Call.{Call}
+use Rattle.desk_types.specs.declared.command.Person.{Person}
 use Rattle.desk_history.specs.Calls.{History}
 use Rattle.desk_exports.specs.ListParts.{ComesInParts, ProposalsComeInParts, RequestsComeInParts, most_of_part, number_after, numbered_below, numbered_from, proposal_number, request_number}
 use Rattle.desk_history.specs.Proposals.{Named, Proposal, proposals, proposed_by, with_next}

@@ -3,8 +3,8 @@ use Rattle.std.proofs.Common.{◌≡◌, ◌≤◌, ℕ, zero, suc, ◌+◌, ◌
 use Rattle.std.specs.Prelude.{decimal, flat_map, reverse}
 use Rattle.std.proofs.lemmas.List.{length-reverse, reverse-append, take-append-drop, take-append-le}
 use Rattle.std.proofs.lemmas.List.Concat.{flat_map-append}
-use Rattle.desk_texts.specs.Callers.{caller_name}
-use Rattle.desk_texts.specs.ReplyTexts.{reply_text_of}
+use Rattle.desk_types.specs.Callers.{caller_name}
+use Rattle.desk_types.specs.ReplyTexts.{reply_text_of}
 use Rattle.desk_history.specs.Calls.{History}
 use Rattle.desk_history.specs.Replies.{minute_of, minutes}
 use Rattle.desk_history.specs.declared.rows.Minute.{Minute}

@@ -6,8 +6,8 @@ use Rattle.std.proofs.lemmas.List.{length-reverse}
 use Rattle.std.proofs.lemmas.List.Folds.{list_any-append}
 use Rattle.std.proofs.lemmas.List.Sorted.{IsPermutation-reverse, list_any-IsPermutation}
 use Rattle.std.proofs.lemmas.Slice.Eq.{bytes_eq-Decides}
-use Rattle.desk_texts.specs.Certificates.{WholeCertificate}
-use Rattle.desk_texts.specs.declared.kind.ListedKind.TheVariants as kinds
+use Rattle.desk_types.specs.Certificates.{WholeCertificate}
+use Rattle.desk_types.specs.declared.kind.ListedKind.TheVariants as kinds
 use Rattle.desk_history.specs.Calls.{distinct, is_among}
 use Rattle.desk_history.specs.Revocations.{is_revoked}
 use Rattle.desk_history.proofs.ListLemmas.{any_once, number_above, same_text}

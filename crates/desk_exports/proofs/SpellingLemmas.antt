@@ -12,13 +12,13 @@ use Rattle.siglist.specs.SignatureLists.{SignatureList, Spells, list_bytes, spel
 use Rattle.siglist.specs.Writing.{most_digests, sha256_row, x509_row, x509_sha256_row}
 use Rattle.siglist.proofs.RowLemmas.{Spells-append}
 use Rattle.siglist.proofs.WritingLemmas.{sha256_spells, x509_sha256_spells, x509_spells}
-use Rattle.desk_texts.specs.Certificates.{WholeCertificate, is_certificate_size}
-use Rattle.desk_texts.specs.Commands.{IsCommand, IsDigest}
-use Rattle.desk_texts.specs.Formed.{IsWithin}
-use Rattle.desk_texts.specs.declared.command.Command.{Command}
-use Rattle.desk_texts.specs.declared.command.Command.TheVariants as command
-use Rattle.desk_texts.specs.declared.kind.ListedKind.{ListedKind}
-use Rattle.desk_texts.specs.declared.kind.ListedKind.TheVariants as kinds
+use Rattle.desk_types.specs.Certificates.{WholeCertificate, is_certificate_size}
+use Rattle.desk_types.specs.Commands.{IsCommand, IsDigest}
+use Rattle.desk_types.specs.Formed.{IsWithin}
+use Rattle.desk_types.specs.declared.command.Command.{Command}
+use Rattle.desk_types.specs.declared.command.Command.TheVariants as command
+use Rattle.desk_types.specs.declared.kind.ListedKind.{ListedKind}
+use Rattle.desk_types.specs.declared.kind.ListedKind.TheVariants as kinds
 use Rattle.desk_history.specs.declared.rows.Entry.{Entry}
 use Rattle.desk_history.specs.Calls.{History, distinct, is_among, is_same_kind}
 use Rattle.desk_history.specs.Formed.{IsHistory, IsItem}

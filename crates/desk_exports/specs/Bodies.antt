@@ -1,9 +1,9 @@
 -- The bodies of certificates, as calls gave them: ListCertificate gives one, and no other call does.
 use Rattle.std.specs.Prelude.{ℕ, Bool, not, List, filter, filter_map, map, reverse, bytes_eq, Option, Some, None}
 use Rattle.std.specs.List.{list_any}
-use Rattle.desk_texts.specs.Certificates.{WholeCertificate}
-use Rattle.desk_texts.specs.declared.command.Command.{Command}
-use Rattle.desk_texts.specs.declared.command.Command.TheVariants as command
+use Rattle.desk_types.specs.Certificates.{WholeCertificate}
+use Rattle.desk_types.specs.declared.command.Command.{Command}
+use Rattle.desk_types.specs.declared.command.Command.TheVariants as command
 use Rattle.desk_history.specs.Calls.{History, distinct}
 
 -- the certificate that the command lists, if it lists one

@@ -5,10 +5,10 @@ use Rattle.sbat.specs.declared.component.Component.{Component}
 use Rattle.sbat.specs.Writing.{level_lines}
 use Rattle.siglist.specs.SignatureLists.{SignatureList, spelling}
 use Rattle.siglist.specs.Writing.{sha256_row, x509_row, x509_sha256_row}
-use Rattle.desk_texts.specs.declared.kind.ListedKind.{ListedKind}
-use Rattle.desk_texts.specs.declared.kind.ListedKind.TheVariants as kinds
-use Rattle.desk_texts.specs.Callers.{caller_name}
-use Rattle.desk_texts.specs.ReplyTexts.{reply_text_of}
+use Rattle.desk_types.specs.declared.kind.ListedKind.{ListedKind}
+use Rattle.desk_types.specs.declared.kind.ListedKind.TheVariants as kinds
+use Rattle.desk_types.specs.Callers.{caller_name}
+use Rattle.desk_types.specs.ReplyTexts.{reply_text_of}
 use Rattle.desk_history.specs.declared.rows.Entry.{Entry}
 use Rattle.desk_history.specs.declared.rows.Minute.{Minute}
 use Rattle.desk_history.specs.Calls.{History, distinct, is_same_kind}

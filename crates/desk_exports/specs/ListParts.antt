@@ -1,8 +1,8 @@
 -- Requests and proposals in parts, as people see them.
 use Rattle.std.specs.Prelude.{◌≡◌, ℕ, ◌+◌, nat_le, not, List, [], ◌∷◌, ◌++◌, filter, take, Result, Ok}
 use Rattle.std.specs.Result.{result_map_both}
-use Rattle.desk_bytes.specs.declared.refusal.Refusal.{Refusal}
-use Rattle.desk_texts.specs.declared.caller.Caller.{Caller}
+use Rattle.base.specs.declared.refusal.Refusal.{Refusal}
+use Rattle.desk_types.specs.declared.caller.Caller.{Caller}
 use Rattle.desk_history.specs.Calls.{History}
 use Rattle.desk_history.specs.Proposals.{Proposal}
 use Rattle.desk_history.specs.Shown.{Whole, proposals_for, requests_for}

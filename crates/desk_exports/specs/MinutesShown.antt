@@ -1,8 +1,8 @@
 -- The minutes in parts, as they are shown, and to whom.
 use Rattle.std.specs.Prelude.{◌≡◌, ◌≤◌, ℕ, ◌+◌, ◌-◌, List, [], ◌++◌, drop, flat_map, length, reverse, take, Result}
 use Rattle.std.specs.Result.{result_map_both}
-use Rattle.desk_bytes.specs.declared.refusal.Refusal.{Refusal}
-use Rattle.desk_texts.specs.declared.caller.Caller.{Caller}
+use Rattle.base.specs.declared.refusal.Refusal.{Refusal}
+use Rattle.desk_types.specs.declared.caller.Caller.{Caller}
 use Rattle.desk_history.specs.Calls.{GoesOnFrom, History}
 use Rattle.desk_history.specs.Replies.{minutes}
 use Rattle.desk_history.specs.Shown.{officer, reader}

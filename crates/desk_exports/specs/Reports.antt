@@ -1,9 +1,9 @@
 -- own: the counts of a desk, as a text.
 use Rattle.std.specs.Prelude.{ℕ, ◌-◌, List, ◌++◌, codes, count_by, decimal, length, replicate}
-use Rattle.desk_texts.specs.declared.kind.ListedKind.{ListedKind}
-use Rattle.desk_texts.specs.declared.kind.ListedKind.TheVariants as kinds
-use Rattle.desk_texts.specs.declared.state.State.{State}
-use Rattle.desk_texts.specs.declared.state.State.TheVariants as states
+use Rattle.desk_types.specs.declared.kind.ListedKind.{ListedKind}
+use Rattle.desk_types.specs.declared.kind.ListedKind.TheVariants as kinds
+use Rattle.desk_types.specs.declared.state.State.{State}
+use Rattle.desk_types.specs.declared.state.State.TheVariants as states
 use Rattle.desk_history.specs.Calls.{History, distinct, is_same_kind}
 use Rattle.desk_history.specs.Level.{generations, names, stamp}
 use Rattle.desk_history.specs.Listing.{listed}

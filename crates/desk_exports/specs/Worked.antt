@@ -1,8 +1,8 @@
 -- Worked exports, written by hand and computed by the definitions.
 use Rattle.std.specs.Prelude.{◌≡◌, ℕ, List, [], ◌∷◌, ◌++◌, codes, length, None}
-use Rattle.desk_texts.specs.declared.command.Command.TheVariants as command
-use Rattle.desk_texts.specs.declared.role.Role.TheVariants as roles
-use Rattle.desk_texts.specs.declared.kind.ListedKind.TheVariants as kinds
+use Rattle.desk_types.specs.declared.command.Command.TheVariants as command
+use Rattle.desk_types.specs.declared.role.Role.TheVariants as roles
+use Rattle.desk_types.specs.declared.kind.ListedKind.TheVariants as kinds
 use Rattle.desk_history.specs.Calls.{History, Item, item}
 use Rattle.desk_history.specs.Worked.{by, digest, imported, officers_added, people_added, person, raise}
 use Rattle.desk_history.specs.Worked.Impact as impact

@@ -1,5 +1,5 @@
 //! What a person can read of a desk.
-use desk_texts::{ProposalNumber, RequestNumber};
+use desk_types::{ProposalNumber, RequestNumber};
 
 /// What a person asks to read of a desk. What the person is shown is `IsShownTo`
 /// (specs/Readings.antt).

@@ -1,8 +1,8 @@
 //! Lists that requests are collected into.
 ghost use Rattle.std.specs.Prelude.{◌≡◌, ◌++◌, ◌∷◌, [], List, OnOk};
-ghost use Rattle.desk_texts.specs.declared.shown.ShownRequest.{ShownRequest};
+ghost use Rattle.desk_types.specs.declared.shown.ShownRequest.{ShownRequest};
 
-use desk_texts::ShownRequest;
+use desk_types::ShownRequest;
 use std::alloc::{AllocError, Global};
 
 /// What requests are collected into, one after another.

@@ -3,7 +3,7 @@ use crate::octets::Octets;
 use crate::shown_people::ShownPeople;
 use crate::shown_proposals::ShownProposals;
 use desk_history::{ProposalRow, ShownImpact};
-use desk_texts::{ProposalNumber, ShownRequest};
+use desk_types::{ProposalNumber, ShownRequest};
 
 /// What a person is shown, each by the reading of its name, or of a part of it. An `L` holds the
 /// requests, which may be written into it as they are read.

@@ -1,8 +1,8 @@
 //! Proposals as they are shown.
 ghost use Rattle.std.specs.Prelude.{◌≡◌, List};
-ghost use Rattle.desk_texts.specs.declared.proposal.Proposal.{Proposal};
+ghost use Rattle.desk_types.specs.declared.proposal.Proposal.{Proposal};
 
-use desk_texts::Proposal;
+use desk_types::Proposal;
 use std::marker::Model;
 
 /// Proposals as an officer is shown them, in their order. A contract sees the list of them.

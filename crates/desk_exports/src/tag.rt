@@ -2,8 +2,8 @@
 ghost use Rattle.std.specs.Prelude.{◌≡◌, IfOk};
 ghost use Rattle.desk_exports.specs.Tags.{tag_of};
 
-use desk_bytes::Digest;
-use desk_texts::{Import, import_text};
+use base::Digest;
+use desk_types::{Import, import_text};
 use sha2::{Digest as _, Sha256};
 use std::alloc::{AllocError, Global};
 

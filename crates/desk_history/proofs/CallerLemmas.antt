@@ -2,15 +2,15 @@
 use Rattle.std.proofs.Common.{◌≡◌, ℕ, Bool, true, false, not, ◌||◌, List, [], ◌∷◌, None, refl, sym, ◌∙◌, ap}
 use Rattle.std.specs.Prelude.{if◌then◌else◌, bytes_eq, codes, find, is_some}
 use Rattle.std.specs.List.{list_any, list_all}
-use Rattle.desk_bytes.specs.declared.refusal.Refusal.TheVariants as refusals
-use Rattle.desk_texts.specs.declared.caller.Caller.{Caller}
-use Rattle.desk_texts.specs.declared.caller.Caller.TheVariants.{Console, Person as Named}
-use Rattle.desk_texts.specs.declared.command.Command.{Command}
-use Rattle.desk_texts.specs.declared.command.Command.TheVariants as command
-use Rattle.desk_texts.specs.declared.command.Person.{Person}
-use Rattle.desk_texts.specs.Callers.{caller_name, is_told_by_name}
-use Rattle.desk_texts.specs.CommandTexts.{text_of}
-use Rattle.desk_texts.proofs.FormLemmas.{joined}
+use Rattle.base.specs.declared.refusal.Refusal.TheVariants as refusals
+use Rattle.desk_types.specs.declared.caller.Caller.{Caller}
+use Rattle.desk_types.specs.declared.caller.Caller.TheVariants.{Console, Person as Named}
+use Rattle.desk_types.specs.declared.command.Command.{Command}
+use Rattle.desk_types.specs.declared.command.Command.TheVariants as command
+use Rattle.desk_types.specs.declared.command.Person.{Person}
+use Rattle.desk_types.specs.Callers.{caller_name, is_told_by_name}
+use Rattle.desk_types.specs.CommandTexts.{text_of}
+use Rattle.desk_types.proofs.FormLemmas.{joined}
 use Rattle.desk_history.specs.Calls.{History, Item}
 use Rattle.desk_history.specs.FormLaws.{CallersAreTold}
 use Rattle.desk_history.specs.People.{has_name, has_token, people}

@@ -6,9 +6,9 @@ use Rattle.std.specs.Option.{option_or}
 use Rattle.std.proofs.lemmas.Bool.Decides.{nat_tests}
 use Rattle.std.proofs.lemmas.List.Folds.{list_any-append}
 use Rattle.sbat.specs.declared.component.Component.{Component}
-use Rattle.desk_texts.specs.declared.facts.Facts.{Facts}
-use Rattle.desk_texts.specs.declared.kind.ListedKind.{ListedKind}
-use Rattle.desk_texts.specs.declared.kind.ListedKind.TheVariants as kinds
+use Rattle.desk_types.specs.declared.facts.Facts.{Facts}
+use Rattle.desk_types.specs.declared.kind.ListedKind.{ListedKind}
+use Rattle.desk_types.specs.declared.kind.ListedKind.TheVariants as kinds
 use Rattle.desk_history.specs.Calls.{History, is_among}
 use Rattle.desk_history.specs.Forces.{revoked_in}
 use Rattle.desk_history.specs.Images.{Image, images}

@@ -1,6 +1,6 @@
 -- Entries that are left out.
 use Rattle.std.proofs.Common.{ℕ, ◌≤◌, true, false, not, cond, List, [], ◌∷◌, length, arith}
-use Rattle.desk_texts.specs.declared.kind.ListedKind.{ListedKind}
+use Rattle.desk_types.specs.declared.kind.ListedKind.{ListedKind}
 use Rattle.desk_history.specs.declared.rows.Entry.{Entry}
 use Rattle.desk_history.specs.Listing.{is_entry, without}
 

@@ -6,17 +6,17 @@ use Rattle.std.proofs.lemmas.Bool.Decides.{nat_tests}
 use Rattle.std.proofs.lemmas.List.{length-map, length-reverse}
 use Rattle.std.proofs.lemmas.List.Elements.{All-cons, All-contains, All-head, All-nil, All-tail}
 use Rattle.sbat.specs.declared.component.Component.{Component}
-use Rattle.desk_texts.specs.declared.command.Command.{Command}
-use Rattle.desk_texts.specs.declared.command.Command.TheVariants as command
-use Rattle.desk_texts.specs.declared.kind.ListedKind.{ListedKind}
-use Rattle.desk_texts.specs.declared.kind.ListedKind.TheVariants as kinds
-use Rattle.desk_texts.specs.Commands.{AreCounts, IsCommand, IsCount, IsReply}
-use Rattle.desk_texts.specs.Imports.{Imported}
-use Rattle.desk_texts.specs.declared.reply.Reply.{Reply}
-use Rattle.desk_texts.specs.declared.reply.Reply.TheVariants as replies
-use Rattle.desk_texts.specs.Forms.{greatest_number, is_request_number}
-use Rattle.desk_texts.proofs.FormLemmas.{joined}
-use Rattle.desk_texts.proofs.ReplyLemmas.{reply_text_of-same}
+use Rattle.desk_types.specs.declared.command.Command.{Command}
+use Rattle.desk_types.specs.declared.command.Command.TheVariants as command
+use Rattle.desk_types.specs.declared.kind.ListedKind.{ListedKind}
+use Rattle.desk_types.specs.declared.kind.ListedKind.TheVariants as kinds
+use Rattle.desk_types.specs.Commands.{AreCounts, IsCommand, IsCount, IsReply}
+use Rattle.desk_types.specs.Imports.{Imported}
+use Rattle.desk_types.specs.declared.reply.Reply.{Reply}
+use Rattle.desk_types.specs.declared.reply.Reply.TheVariants as replies
+use Rattle.desk_types.specs.Forms.{greatest_number, is_request_number}
+use Rattle.desk_types.proofs.FormLemmas.{joined}
+use Rattle.desk_types.proofs.ReplyLemmas.{reply_text_of-same}
 use Rattle.desk_history.specs.Calls.{First, History, Item, Rules, Second, distinct, is_among}
 use Rattle.desk_history.specs.Formed.{IsHistory, IsItem, IsReadable}
 use Rattle.desk_history.specs.FormLaws.{MinutesAreReadable, MinutesDiffer}

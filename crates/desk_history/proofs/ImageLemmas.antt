@@ -3,11 +3,11 @@ use Rattle.std.proofs.Common.{◌≡◌, ◌+◌, Bool, true, false, All, List, 
 use Rattle.std.specs.Prelude.{◌==◌, if◌then◌else◌, is_some}
 use Rattle.std.specs.List.{cons_option}
 use Rattle.std.proofs.lemmas.List.Elements.{All-cons, All-contains, All-nil, All-weaker}
-use Rattle.desk_texts.specs.Callers.{caller_name}
-use Rattle.desk_texts.specs.declared.command.Command.{Command}
-use Rattle.desk_texts.specs.declared.command.Command.TheVariants as command
-use Rattle.desk_texts.specs.declared.facts.Facts.{Facts}
-use Rattle.desk_texts.specs.declared.state.State.{State}
+use Rattle.desk_types.specs.Callers.{caller_name}
+use Rattle.desk_types.specs.declared.command.Command.{Command}
+use Rattle.desk_types.specs.declared.command.Command.TheVariants as command
+use Rattle.desk_types.specs.declared.facts.Facts.{Facts}
+use Rattle.desk_types.specs.declared.state.State.{State}
 use Rattle.desk_history.specs.Calls.{History, Item}
 use Rattle.desk_history.specs.Images.{Image, image_of, images}
 use Rattle.desk_history.specs.ImpactLaws.{ImagesAreAll, ImagesHaveRequests, is_file, returned_image, submitted_image}
@@ -19,7 +19,7 @@ use Rattle.desk_history.proofs.ListLemmas.{number_itself}
 use Rattle.desk_history.proofs.RefusalLemmas.{no_refusal}
 use Rattle.desk_history.proofs.RequestLemmas.{length_numbered}
 use Rattle.desk_history.proofs.RunLemmas.{giving, newest}
-use Rattle.desk_history.specs.declared.impact.File.TheVariants as files
+use Rattle.desk_history.specs.declared.impact.WhichFile.TheVariants as files
 
 abbrev AreAll : History → Type 0
 AreAll cs =

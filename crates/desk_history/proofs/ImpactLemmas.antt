@@ -7,7 +7,7 @@ use Rattle.std.proofs.lemmas.Bool.{and_parts}
 use Rattle.std.proofs.lemmas.List.Elements.{Contains-append_cases, Contains-append_left, Contains-append_right, Contains-push, Contains-push_cases}
 use Rattle.std.proofs.lemmas.List.Sorted.{Contains-permutation, IsPermutation-reverse}
 use Rattle.sbat.specs.declared.component.Component.{Component}
-use Rattle.desk_bytes.specs.declared.refusal.Refusal.{Refusal}
+use Rattle.base.specs.declared.refusal.Refusal.{Refusal}
 use Rattle.desk_history.specs.Calls.{History}
 use Rattle.desk_history.specs.Images.{Image}
 use Rattle.desk_history.specs.Impact.{Impact, NewlyBarred, after, component_rule, confirm_of, first_rule, impact, impact_of, impact_refusal, newly_barred, newly_barred_by, rule_at}

@@ -3,7 +3,7 @@ use Rattle.std.proofs.Common.{◌≡◌, Bool, true, false, not, ◌||◌, [], �
 use Rattle.std.specs.Prelude.{if◌then◌else◌}
 use Rattle.std.specs.List.{list_any}
 use Rattle.std.proofs.lemmas.Bool.{and_parts}
-use Rattle.desk_texts.specs.declared.command.Call.{Call}
+use Rattle.desk_types.specs.declared.command.Call.{Call}
 use Rattle.desk_history.specs.Calls.{History, Item, are_apart, has_same_key, is_same_item}
 use Rattle.desk_history.specs.declared.rows.Minute.{Minute}
 use Rattle.desk_history.specs.Replies.{minute_of, minutes}

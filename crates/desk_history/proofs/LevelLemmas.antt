@@ -9,18 +9,18 @@ use Rattle.std.proofs.lemmas.List.Elements.{All-head}
 use Rattle.std.proofs.lemmas.List.Folds.{list_all-append}
 use Rattle.sbat.specs.Fields.{sbat}
 use Rattle.sbat.specs.declared.component.Component.{Component}
-use Rattle.desk_bytes.specs.declared.refusal.Refusal.{Refusal}
-use Rattle.desk_bytes.specs.declared.refusal.Refusal.TheVariants as refusals
-use Rattle.desk_texts.specs.declared.command.Call.{Call}
-use Rattle.desk_texts.specs.declared.command.Command.{Command}
-use Rattle.desk_texts.specs.declared.command.Command.TheVariants as command
-use Rattle.desk_texts.specs.Formed.{IsWithin}
-use Rattle.desk_texts.specs.Imports.{Imported}
-use Rattle.desk_texts.specs.declared.proposal.ProposalState.{ProposalState}
-use Rattle.desk_texts.specs.declared.proposal.ProposalState.TheVariants as states
-use Rattle.desk_texts.specs.Raising.{names_no_sbat}
-use Rattle.desk_texts.specs.Callers.{caller_name}
-use Rattle.desk_texts.proofs.FormLemmas.{both, joined}
+use Rattle.base.specs.declared.refusal.Refusal.{Refusal}
+use Rattle.base.specs.declared.refusal.Refusal.TheVariants as refusals
+use Rattle.desk_types.specs.declared.command.Call.{Call}
+use Rattle.desk_types.specs.declared.command.Command.{Command}
+use Rattle.desk_types.specs.declared.command.Command.TheVariants as command
+use Rattle.desk_types.specs.Formed.{IsWithin}
+use Rattle.desk_types.specs.Imports.{Imported}
+use Rattle.desk_types.specs.declared.proposal.ProposalState.{ProposalState}
+use Rattle.desk_types.specs.declared.proposal.ProposalState.TheVariants as states
+use Rattle.desk_types.specs.Raising.{names_no_sbat}
+use Rattle.desk_types.specs.Callers.{caller_name}
+use Rattle.desk_types.proofs.FormLemmas.{both, joined}
 use Rattle.desk_history.specs.Calls.{First, History, Rules, Second, distinct, is_among, under}
 use Rattle.desk_history.specs.Formed.{IsHistory, IsItem}
 use Rattle.desk_history.specs.FormLaws.{LevelHasNoSbat}

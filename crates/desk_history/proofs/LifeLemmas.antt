@@ -4,14 +4,14 @@ use Rattle.std.specs.Prelude.{if◌then◌else◌, bytes_eq, find}
 use Rattle.std.specs.List.{list_all}
 use Rattle.std.proofs.lemmas.Bool.{and_parts}
 use Rattle.std.proofs.lemmas.List.Folds.{list_all-append}
-use Rattle.desk_texts.proofs.FormLemmas.{joined}
-use Rattle.desk_bytes.specs.declared.refusal.Refusal.{Refusal}
-use Rattle.desk_bytes.specs.declared.refusal.Refusal.TheVariants as refusals
-use Rattle.desk_texts.specs.declared.command.Call.{Call}
-use Rattle.desk_texts.specs.declared.reply.Reply.{Reply}
-use Rattle.desk_texts.specs.Callers.{caller_name}
+use Rattle.desk_types.proofs.FormLemmas.{joined}
+use Rattle.base.specs.declared.refusal.Refusal.{Refusal}
+use Rattle.base.specs.declared.refusal.Refusal.TheVariants as refusals
+use Rattle.desk_types.specs.declared.command.Call.{Call}
+use Rattle.desk_types.specs.declared.reply.Reply.{Reply}
+use Rattle.desk_types.specs.Callers.{caller_name}
 use Rattle.desk_history.specs.Calls.{First, GoesOnFrom, History, Item, Rules, Second, is_first, under}
-use Rattle.desk_texts.specs.CommandTexts.{text_of}
+use Rattle.desk_types.specs.CommandTexts.{text_of}
 use Rattle.desk_history.specs.declared.rows.Minute.{Minute}
 use Rattle.desk_history.specs.Replies.{minute_of, minutes, reply_to}
 use Rattle.desk_history.specs.declared.answer.Answer.TheVariants.{Refused as IsRefused, Repeated}

@@ -1,14 +1,14 @@
 -- Two officers: who proposed a proposal, and who confirmed it.
 use Rattle.std.proofs.Common.{◌≡◌, ◌⊎◌, ℕ, ◌+◌, Bool, true, false, List, [], ◌∷◌, ◌++◌, length, Option, Some, None, refl, sym, ◌∙◌, ap, subst, inl, inr}
 use Rattle.std.specs.Prelude.{◌==◌, if◌then◌else◌, bytes_eq, find, option_map}
-use Rattle.desk_bytes.specs.declared.refusal.Refusal.{Refusal}
-use Rattle.desk_texts.specs.Callers.{caller_name}
-use Rattle.desk_texts.specs.Imports.{Imported}
-use Rattle.desk_texts.specs.declared.command.Call.{Call}
-use Rattle.desk_texts.specs.declared.command.Command.{Command}
-use Rattle.desk_texts.specs.declared.command.Command.TheVariants as command
-use Rattle.desk_texts.specs.declared.proposal.ProposalState.{ProposalState}
-use Rattle.desk_texts.specs.declared.proposal.ProposalState.TheVariants as states
+use Rattle.base.specs.declared.refusal.Refusal.{Refusal}
+use Rattle.desk_types.specs.Callers.{caller_name}
+use Rattle.desk_types.specs.Imports.{Imported}
+use Rattle.desk_types.specs.declared.command.Call.{Call}
+use Rattle.desk_types.specs.declared.command.Command.{Command}
+use Rattle.desk_types.specs.declared.command.Command.TheVariants as command
+use Rattle.desk_types.specs.declared.proposal.ProposalState.{ProposalState}
+use Rattle.desk_types.specs.declared.proposal.ProposalState.TheVariants as states
 use Rattle.desk_history.specs.Calls.{First, History, Item, Rules, Second, item, under}
 use Rattle.desk_history.specs.Forces.{confirmed_by, enforced_by}
 use Rattle.desk_history.specs.Proposals.{Named, Proposal, is_proposal, proposal, proposal_state, proposals, proposed_by, with_next}

@@ -3,15 +3,15 @@ use Rattle.std.proofs.Common.{◌≡◌, ℕ, ◌+◌, ◌<◌, ◌≤◌, Bool,
 use Rattle.std.specs.Prelude.{◌==◌, if◌then◌else◌, find, option_map}
 use Rattle.std.specs.List.{list_any}
 use Rattle.std.proofs.lemmas.List.Elements.{All-cons, All-head, All-nil, All-tail}
-use Rattle.desk_texts.specs.Callers.{caller_name}
-use Rattle.desk_texts.specs.Commands.{IsCommand}
-use Rattle.desk_texts.specs.Formed.{IsCall, IsWithin}
-use Rattle.desk_texts.specs.Forms.{most_imported}
-use Rattle.desk_texts.specs.Imports.{Imported, named_count}
-use Rattle.desk_texts.specs.declared.command.Call.{Call}
-use Rattle.desk_texts.specs.declared.command.Command.{Command}
-use Rattle.desk_texts.specs.declared.command.Command.TheVariants as command
-use Rattle.desk_texts.specs.declared.proposal.ProposalState.{ProposalState}
+use Rattle.desk_types.specs.Callers.{caller_name}
+use Rattle.desk_types.specs.Commands.{IsCommand}
+use Rattle.desk_types.specs.Formed.{IsCall, IsWithin}
+use Rattle.desk_types.specs.Forms.{most_imported}
+use Rattle.desk_types.specs.Imports.{Imported, named_count}
+use Rattle.desk_types.specs.declared.command.Call.{Call}
+use Rattle.desk_types.specs.declared.command.Command.{Command}
+use Rattle.desk_types.specs.declared.command.Command.TheVariants as command
+use Rattle.desk_types.specs.declared.proposal.ProposalState.{ProposalState}
 use Rattle.desk_history.specs.Calls.{First, History, Rules, Second, are_apart, under}
 use Rattle.desk_history.specs.Forces.{confirmed_by, enforced_by}
 use Rattle.desk_history.specs.Formed.{IsItem}

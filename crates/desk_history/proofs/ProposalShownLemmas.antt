@@ -3,12 +3,12 @@ use Rattle.std.proofs.Common.{◌≡◌, ℕ, ◌+◌, ◌<◌, true, false, [],
 use Rattle.std.specs.Prelude.{◌==◌, if◌then◌else◌, find, is_some, option_map}
 use Rattle.std.specs.List.{cons_option}
 use Rattle.std.specs.Option.{option_map_or}
-use Rattle.desk_texts.specs.Callers.{caller_name}
-use Rattle.desk_texts.specs.declared.command.Call.{Call}
-use Rattle.desk_texts.specs.declared.command.Command.{Command}
-use Rattle.desk_texts.specs.declared.command.Command.TheVariants as command
-use Rattle.desk_texts.specs.declared.proposal.ProposalOutcome.{ProposalOutcome}
-use Rattle.desk_texts.specs.declared.proposal.ProposalState.TheVariants as states
+use Rattle.desk_types.specs.Callers.{caller_name}
+use Rattle.desk_types.specs.declared.command.Call.{Call}
+use Rattle.desk_types.specs.declared.command.Command.{Command}
+use Rattle.desk_types.specs.declared.command.Command.TheVariants as command
+use Rattle.desk_types.specs.declared.proposal.ProposalOutcome.{ProposalOutcome}
+use Rattle.desk_types.specs.declared.proposal.ProposalState.TheVariants as states
 use Rattle.desk_history.specs.Calls.{First, History, Rules, Second, item, under}
 use Rattle.desk_history.specs.ProposalLaws.{ExplainsAlone}
 use Rattle.desk_history.specs.ProposalShown.{ProposalsStay, ShownAsProposed}

@@ -1,6 +1,6 @@
 -- Refusals that there aren't.
 use Rattle.std.proofs.Common.{◌≡◌, Bool, true, false, Some, None, refl}
-use Rattle.desk_bytes.specs.declared.refusal.Refusal.{Refusal}
+use Rattle.base.specs.declared.refusal.Refusal.{Refusal}
 use Rattle.desk_history.specs.Refusals.{refuse_if}
 
 -- a condition that doesn't refuse doesn't hold

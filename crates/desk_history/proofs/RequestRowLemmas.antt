@@ -12,10 +12,10 @@ use Rattle.std.proofs.lemmas.List.Elements.{All-cons, All-head, All-nil, All-tai
 use Rattle.std.proofs.lemmas.List.Folds.{list_any-append}
 use Rattle.std.proofs.lemmas.Map.Text.{is_eq-slice_cmp}
 use Rattle.sbat.specs.declared.component.Component.{Component}
-use Rattle.desk_bytes.specs.Digests.{IsAscending}
-use Rattle.desk_texts.specs.declared.command.Command.{Command}
-use Rattle.desk_texts.specs.declared.command.Command.TheVariants as command
-use Rattle.desk_texts.specs.Formed.{IsWithin}
+use Rattle.base.specs.Digests.{IsAscending}
+use Rattle.desk_types.specs.declared.command.Command.{Command}
+use Rattle.desk_types.specs.declared.command.Command.TheVariants as command
+use Rattle.desk_types.specs.Formed.{IsWithin}
 use Rattle.desk_history.specs.Calls.{History, Item, are_apart}
 use Rattle.desk_history.specs.Formed.{IsItem}
 use Rattle.desk_history.specs.FormLaws.{AllRowsStandOnce, is_certificate_key, is_place_key}

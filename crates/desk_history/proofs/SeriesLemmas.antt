@@ -5,14 +5,14 @@ use Rattle.std.specs.List.{list_all}
 use Rattle.std.proofs.lemmas.Bool.{and_parts}
 use Rattle.std.proofs.lemmas.List.Elements.{All-cons, All-head, All-nil, All-tail}
 use Rattle.std.proofs.lemmas.List.Folds.{list_all-append}
-use Rattle.desk_bytes.specs.declared.refusal.Refusal.TheVariants as refusals
-use Rattle.desk_texts.specs.declared.caller.Caller.{Caller}
-use Rattle.desk_texts.specs.declared.command.Call.{Call}
-use Rattle.desk_texts.specs.declared.command.Command.{Command}
-use Rattle.desk_texts.specs.declared.reply.Reply.{Reply}
-use Rattle.desk_texts.specs.Callers.{caller_name, is_told_by_name}
-use Rattle.desk_texts.specs.CommandTexts.{text_of}
-use Rattle.desk_texts.proofs.ReadingLemmas.{text_of-same}
+use Rattle.base.specs.declared.refusal.Refusal.TheVariants as refusals
+use Rattle.desk_types.specs.declared.caller.Caller.{Caller}
+use Rattle.desk_types.specs.declared.command.Call.{Call}
+use Rattle.desk_types.specs.declared.command.Command.{Command}
+use Rattle.desk_types.specs.declared.reply.Reply.{Reply}
+use Rattle.desk_types.specs.Callers.{caller_name, is_told_by_name}
+use Rattle.desk_types.specs.CommandTexts.{text_of}
+use Rattle.desk_types.proofs.ReadingLemmas.{text_of-same}
 use Rattle.desk_history.specs.Calls.{GoesOnFrom, History, Item, has_same_key, under}
 use Rattle.desk_history.specs.Formed.{IsHistory, IsItem}
 use Rattle.desk_history.specs.FormLaws.{AnsweredCallsStand, EndsAreHistories, Stands}

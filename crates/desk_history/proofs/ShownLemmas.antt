@@ -2,12 +2,12 @@
 use Rattle.std.proofs.Common.{◌≡◌, ℕ, Bool, true, false, List, [], ◌∷◌, filter, find, Some, None, option_map, Result, Ok, refl, sym, ◌∙◌, ap}
 use Rattle.std.specs.Prelude.{bytes_eq, ok_or, reverse}
 use Rattle.std.specs.Result.{result_map_both}
-use Rattle.desk_bytes.specs.declared.refusal.Refusal.{Refusal}
-use Rattle.desk_bytes.specs.declared.refusal.Refusal.TheVariants as refusals
-use Rattle.desk_texts.specs.declared.caller.Caller.TheVariants as callers
-use Rattle.desk_texts.specs.declared.command.Person.{Person}
-use Rattle.desk_texts.specs.declared.role.Role.{Role}
-use Rattle.desk_texts.specs.declared.role.Role.TheVariants as roles
+use Rattle.base.specs.declared.refusal.Refusal.{Refusal}
+use Rattle.base.specs.declared.refusal.Refusal.TheVariants as refusals
+use Rattle.desk_types.specs.declared.caller.Caller.TheVariants as callers
+use Rattle.desk_types.specs.declared.command.Person.{Person}
+use Rattle.desk_types.specs.declared.role.Role.{Role}
+use Rattle.desk_types.specs.declared.role.Role.TheVariants as roles
 use Rattle.desk_history.specs.Calls.{History}
 use Rattle.desk_history.specs.People.{has_name, people, person}
 use Rattle.desk_history.specs.Shown.{SubmittersSeeOwn, Whole, found_among, own, role_of, sees, shown_to, wholes}

@@ -1,8 +1,8 @@
 -- A call, by its parts.
 use Rattle.std.specs.Prelude.{ℕ, List}
-use Rattle.desk_texts.specs.declared.caller.Caller.{Caller}
-use Rattle.desk_texts.specs.declared.command.Call.{Call}
-use Rattle.desk_texts.specs.declared.command.Command.{Command}
+use Rattle.desk_types.specs.declared.caller.Caller.{Caller}
+use Rattle.desk_types.specs.declared.command.Call.{Call}
+use Rattle.desk_types.specs.declared.command.Command.{Command}
 
 -- the call of a command by a caller, under a key
 abbrev pub called : Caller → List ℕ → Command → Call

@@ -1,7 +1,7 @@
 -- The refusals of decisions.
 use Rattle.std.specs.Prelude.{Bool, true, false}
-use Rattle.desk_bytes.specs.declared.refusal.Refusal.{Refusal}
-use Rattle.desk_bytes.specs.declared.refusal.Refusal.TheVariants as refusals
+use Rattle.base.specs.declared.refusal.Refusal.{Refusal}
+use Rattle.base.specs.declared.refusal.Refusal.TheVariants as refusals
 
 -- whether the desk's rules may answer a call with this refusal, or it is NoMemory
 abbrev pub may_answer : Refusal → Bool

@@ -1,12 +1,12 @@
 -- Laws of histories whose calls are in their forms.
 use Rattle.std.specs.Prelude.{◌≡◌, ◌≢◌, ℕ, ◌==◌, Bool, ◌&&◌, IsTrue, All, List, ◌++◌, ◌∷◌, bytes_eq}
 use Rattle.std.specs.List.{Contains, list_all}
-use Rattle.desk_texts.specs.Callers.{caller_name, is_told_by_name}
-use Rattle.desk_texts.specs.Raising.{names_no_sbat}
-use Rattle.desk_texts.specs.ReplyTexts.{reply_text_of}
-use Rattle.desk_texts.specs.declared.command.Call.{Call}
-use Rattle.desk_texts.specs.declared.facts.Facts.{Facts}
-use Rattle.desk_texts.specs.declared.reply.Reply.{Reply}
+use Rattle.desk_types.specs.Callers.{caller_name, is_told_by_name}
+use Rattle.desk_types.specs.Raising.{names_no_sbat}
+use Rattle.desk_types.specs.ReplyTexts.{reply_text_of}
+use Rattle.desk_types.specs.declared.command.Call.{Call}
+use Rattle.desk_types.specs.declared.facts.Facts.{Facts}
+use Rattle.desk_types.specs.declared.reply.Reply.{Reply}
 use Rattle.desk_history.specs.Calls.{GoesOnFrom, History, Item, Rules, are_apart, under}
 use Rattle.desk_history.specs.Formed.{IsHistory, IsItem, IsReadable}
 use Rattle.desk_history.specs.Laws.{StandOnce}

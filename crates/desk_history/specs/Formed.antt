@@ -1,9 +1,9 @@
 -- Histories that a desk may have, and minutes that can be read back.
 use Rattle.std.specs.Prelude.{◌≡◌, IsTrue, All, true}
-use Rattle.desk_texts.specs.Callers.{is_told_by_name}
-use Rattle.desk_texts.specs.Commands.{IsCaller, IsReply}
-use Rattle.desk_texts.specs.Formed.{IsCall}
-use Rattle.desk_texts.specs.Forms.{is_key}
+use Rattle.desk_types.specs.Callers.{is_told_by_name}
+use Rattle.desk_types.specs.Commands.{IsCaller, IsReply}
+use Rattle.desk_types.specs.Formed.{IsCall}
+use Rattle.desk_types.specs.Forms.{is_key}
 use Rattle.desk_history.specs.Calls.{History, Item}
 use Rattle.desk_history.specs.declared.rows.Minute.{Minute}
 use Rattle.desk_history.specs.Runs.{is_legal}

@@ -1,18 +1,18 @@
 -- The images that passed through a desk: those of the accepted Submit and Return calls.
 use Rattle.std.specs.Prelude.{ℕ, ◌+◌, List, [], ◌∷◌, length, Option, Some, None}
 use Rattle.std.specs.List.{cons_option}
-use Rattle.desk_texts.specs.declared.command.Command.{Command}
-use Rattle.desk_texts.specs.declared.command.Command.TheVariants as command
-use Rattle.desk_texts.specs.declared.facts.Facts.{Facts}
+use Rattle.desk_types.specs.declared.command.Command.{Command}
+use Rattle.desk_types.specs.declared.command.Command.TheVariants as command
+use Rattle.desk_types.specs.declared.facts.Facts.{Facts}
 use Rattle.desk_history.specs.Calls.{History}
 use Rattle.desk_history.specs.Requests.{requests}
-use Rattle.desk_history.specs.declared.impact.File.{File}
-use Rattle.desk_history.specs.declared.impact.File.TheVariants as files
+use Rattle.desk_history.specs.declared.impact.WhichFile.{WhichFile}
+use Rattle.desk_history.specs.declared.impact.WhichFile.TheVariants as files
 
 -- an image that passed through the desk: the number of its request, which file of it, and its facts
 pub record Image : Type 0 where
   pub request : ℕ
-  pub file : File
+  pub file : WhichFile
   pub facts : Facts
 
 -- the image of a command that is accepted after these calls: a Submit's is that of the next

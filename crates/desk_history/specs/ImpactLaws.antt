@@ -2,16 +2,16 @@
 use Rattle.std.specs.Prelude.{◌≡◌, ◌↔◌, ◌⊎◌, ℕ, Bool, true, false, not, ◌&&◌, ◌||◌, if◌then◌else◌, IsTrue, List, map, filter, filter_map, reverse, option_map, None, is_some, Result, Ok, Err, bytes_eq}
 use Rattle.std.specs.List.{Contains}
 use Rattle.std.specs.Option.{option_map_or}
-use Rattle.desk_bytes.specs.declared.refusal.Refusal.{Refusal}
-use Rattle.desk_texts.specs.Callers.{caller_name}
-use Rattle.desk_texts.specs.declared.command.Call.{Call}
-use Rattle.desk_texts.specs.declared.command.Command.TheVariants as command
-use Rattle.desk_texts.specs.declared.facts.Facts.{Facts}
-use Rattle.desk_texts.specs.declared.reply.Reply.TheVariants as replies
+use Rattle.base.specs.declared.refusal.Refusal.{Refusal}
+use Rattle.desk_types.specs.Callers.{caller_name}
+use Rattle.desk_types.specs.declared.command.Call.{Call}
+use Rattle.desk_types.specs.declared.command.Command.TheVariants as command
+use Rattle.desk_types.specs.declared.facts.Facts.{Facts}
+use Rattle.desk_types.specs.declared.reply.Reply.TheVariants as replies
 use Rattle.desk_history.specs.Calls.{GoesOnFrom, History}
 use Rattle.desk_history.specs.Images.{Image, images}
-use Rattle.desk_history.specs.declared.impact.File.{File}
-use Rattle.desk_history.specs.declared.impact.File.TheVariants as files
+use Rattle.desk_history.specs.declared.impact.WhichFile.{WhichFile}
+use Rattle.desk_history.specs.declared.impact.WhichFile.TheVariants as files
 use Rattle.desk_history.specs.Impact.{Impact, after, allows, first_rule, impact, impact_of, newly_barred, newly_barred_by, standing_of, would_force}
 use Rattle.desk_history.specs.Proposals.{proposal}
 use Rattle.desk_history.specs.Refusals.{may_give}
@@ -112,7 +112,7 @@ abbrev pub RulesBar : Type 0
 RulesBar = (s : Standing) (x : Facts) → is_some (first_rule s x) ≡ bars s x
 
 -- the image is that of this file of its request
-abbrev pub is_file : File → Image → Bool
+abbrev pub is_file : WhichFile → Image → Bool
 is_file files.Submitted m = elim m.file [ files.Submitted ↦ true | files.Returned ↦ false ]
 is_file files.Returned m = elim m.file [ files.Submitted ↦ false | files.Returned ↦ true ]
 

@@ -1,9 +1,9 @@
 -- The impact of a proposal as it is shown, and to whom.
 use Rattle.std.specs.Prelude.{◌≡◌, ℕ, map, Result, Ok, Err}
-use Rattle.desk_bytes.specs.declared.refusal.Refusal.{Refusal}
-use Rattle.desk_texts.specs.declared.caller.Caller.{Caller}
-use Rattle.desk_texts.specs.declared.caller.Caller.TheVariants as callers
-use Rattle.desk_texts.specs.declared.command.Person.{Person}
+use Rattle.base.specs.declared.refusal.Refusal.{Refusal}
+use Rattle.desk_types.specs.declared.caller.Caller.{Caller}
+use Rattle.desk_types.specs.declared.caller.Caller.TheVariants as callers
+use Rattle.desk_types.specs.declared.command.Person.{Person}
 use Rattle.desk_history.specs.Calls.{History}
 use Rattle.desk_history.specs.Impact.{Impact, NewlyBarred, impact}
 use Rattle.desk_history.specs.Shown.{IsGiven, officer, reader}

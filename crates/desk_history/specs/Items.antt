@@ -1,6 +1,6 @@
 -- Items of a proposal.
 use Rattle.std.specs.Prelude.{ℕ, ◌+◌, List, [], ◌∷◌, ◌++◌, map}
-use Rattle.desk_texts.specs.Imports.{Imported}
+use Rattle.desk_types.specs.Imports.{Imported}
 use Rattle.desk_history.specs.declared.rows.ProposalItem.{ProposalItem}
 use Rattle.desk_history.specs.declared.rows.ProposalItem.TheVariants as items
 use Rattle.desk_history.specs.declared.rows.ProposalItemRow.{ProposalItemRow}

@@ -1,11 +1,11 @@
 -- Laws of the definitions.
 use Rattle.std.specs.Prelude.{◌≡◌, ◌↔◌, ℕ, ◌==◌, Bool, true, false, ◌&&◌, IsTrue, List, [], ◌++◌, ◌∷◌, bytes_eq}
-use Rattle.desk_texts.specs.declared.command.Call.{Call}
+use Rattle.desk_types.specs.declared.command.Call.{Call}
 use Rattle.sbat.specs.declared.component.Component.{Component}
-use Rattle.desk_texts.specs.declared.facts.Facts.{Facts}
-use Rattle.desk_texts.specs.declared.kind.ListedKind.{ListedKind}
-use Rattle.desk_texts.specs.declared.command.Person.{Person}
-use Rattle.desk_texts.specs.declared.reply.Reply.{Reply}
+use Rattle.desk_types.specs.declared.facts.Facts.{Facts}
+use Rattle.desk_types.specs.declared.kind.ListedKind.{ListedKind}
+use Rattle.desk_types.specs.declared.command.Person.{Person}
+use Rattle.desk_types.specs.declared.reply.Reply.{Reply}
 use Rattle.desk_history.specs.Calls.{First, GoesOnFrom, History, Item, are_apart, is_same_item}
 use Rattle.desk_history.specs.declared.rows.Entry.{Entry}
 use Rattle.desk_history.specs.Listing.{has_entry, is_entry, is_listed, listed}
@@ -15,7 +15,7 @@ use Rattle.desk_history.specs.declared.rows.ProposalRow.{ProposalRow}
 use Rattle.desk_history.specs.declared.rows.RequestRow.{RequestRow}
 use Rattle.desk_history.specs.declared.rows.ReturnRow.{ReturnRow}
 use Rattle.desk_history.specs.Tables.{Tables, tables}
-use Rattle.desk_texts.specs.Callers.{caller_name}
+use Rattle.desk_types.specs.Callers.{caller_name}
 use Rattle.desk_history.specs.declared.finding.Verdict.TheVariants.{Allowed}
 use Rattle.desk_history.specs.Lives.{Answered, Ends, Event, Holds, Life, WasAnswered, events_of}
 use Rattle.desk_history.specs.Runs.{is_legal, run, run_by}

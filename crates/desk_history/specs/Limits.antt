@@ -1,6 +1,6 @@
 -- Limits of a desk.
 use Rattle.std.specs.Prelude.{ℕ, Bool, ◌&&◌, nat_le, length}
-use Rattle.desk_texts.specs.declared.kind.ListedKind.TheVariants as kinds
+use Rattle.desk_types.specs.declared.kind.ListedKind.TheVariants as kinds
 use Rattle.desk_history.specs.Calls.{History, distinct}
 use Rattle.desk_history.specs.Level.{generations, names}
 use Rattle.desk_history.specs.Listing.{listed}

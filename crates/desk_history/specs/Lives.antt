@@ -1,11 +1,11 @@
 -- Lives of a desk, and the histories that stops may leave.
 use Rattle.std.specs.Prelude.{◌≡◌, ◌⊎◌, Bool, true, false, ◌&&◌, if◌then◌else◌, IsTrue, List, [], ◌∷◌, ◌++◌, Some, flat_map}
 use Rattle.std.specs.List.{list_all}
-use Rattle.desk_texts.specs.declared.command.Call.{Call}
-use Rattle.desk_texts.specs.declared.reply.Reply.{Reply}
+use Rattle.desk_types.specs.declared.command.Call.{Call}
+use Rattle.desk_types.specs.declared.reply.Reply.{Reply}
 use Rattle.desk_history.specs.Calls.{First, History, Item, Rules, Second, item}
 use Rattle.desk_history.specs.declared.rows.Minute.{Minute}
-use Rattle.desk_texts.specs.CommandTexts.{text_of}
+use Rattle.desk_types.specs.CommandTexts.{text_of}
 use Rattle.desk_history.specs.Runs.{earlier, next_item, reply_in, ruling}
 
 -- The fate of a call: it was answered Ok with a reply, it was refused, or it was stopped. A call

@@ -1,8 +1,8 @@
 -- The people of a desk: those whom the console added.
 use Rattle.std.specs.Prelude.{ℕ, Bool, List, Option, Some, None, filter_map, find, bytes_eq}
-use Rattle.desk_texts.specs.declared.command.Command.{Command}
-use Rattle.desk_texts.specs.declared.command.Command.TheVariants as command
-use Rattle.desk_texts.specs.declared.command.Person.{Person}
+use Rattle.desk_types.specs.declared.command.Command.{Command}
+use Rattle.desk_types.specs.declared.command.Command.TheVariants as command
+use Rattle.desk_types.specs.declared.command.Person.{Person}
 use Rattle.desk_history.specs.Calls.{History}
 
 -- the person whom a command adds

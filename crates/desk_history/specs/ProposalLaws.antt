@@ -1,13 +1,13 @@
 -- Laws of proposals.
 use Rattle.std.specs.Prelude.{◌≡◌, ◌⊎◌, ℕ, ◌+◌, ◌==◌, false, not, ◌&&◌, IsTrue, List, ◌++◌, ◌∷◌, length, bytes_eq, Some, is_some, option_map}
 use Rattle.std.specs.List.{list_all}
-use Rattle.desk_texts.specs.Callers.{caller_name}
-use Rattle.desk_texts.specs.Imports.{Imported}
-use Rattle.desk_texts.specs.declared.command.Call.{Call}
-use Rattle.desk_texts.specs.declared.command.Command.TheVariants as command
-use Rattle.desk_texts.specs.declared.command.Explanation.{Explanation}
-use Rattle.desk_texts.specs.declared.proposal.ProposalOutcome.{ProposalOutcome}
-use Rattle.desk_texts.specs.declared.proposal.ProposalState.TheVariants as states
+use Rattle.desk_types.specs.Callers.{caller_name}
+use Rattle.desk_types.specs.Imports.{Imported}
+use Rattle.desk_types.specs.declared.command.Call.{Call}
+use Rattle.desk_types.specs.declared.command.Command.TheVariants as command
+use Rattle.desk_types.specs.declared.command.Explanation.{Explanation}
+use Rattle.desk_types.specs.declared.proposal.ProposalOutcome.{ProposalOutcome}
+use Rattle.desk_types.specs.declared.proposal.ProposalState.TheVariants as states
 use Rattle.desk_history.specs.Calls.{First, History, Item, Second, are_apart, is_first, item}
 use Rattle.desk_history.specs.Forces.{enforced_by}
 use Rattle.desk_history.specs.Proposals.{named_by, outcome_by, outcomes, proposal_state, proposals}

@@ -1,11 +1,11 @@
 -- One proposal as it is shown, with all that it names.
 use Rattle.std.specs.Prelude.{◌≡◌, ℕ, ◌+◌, IsTrue, ◌∷◌, length, Option, Some, option_map, ok_or, Result, Ok, Err, is_some}
-use Rattle.desk_bytes.specs.declared.refusal.Refusal.{Refusal}
-use Rattle.desk_bytes.specs.declared.refusal.Refusal.TheVariants as refusals
-use Rattle.desk_texts.specs.Callers.{caller_name}
-use Rattle.desk_texts.specs.declared.caller.Caller.{Caller}
-use Rattle.desk_texts.specs.declared.command.Person.{Person}
-use Rattle.desk_texts.specs.declared.proposal.ProposalState.TheVariants as states
+use Rattle.base.specs.declared.refusal.Refusal.{Refusal}
+use Rattle.base.specs.declared.refusal.Refusal.TheVariants as refusals
+use Rattle.desk_types.specs.Callers.{caller_name}
+use Rattle.desk_types.specs.declared.caller.Caller.{Caller}
+use Rattle.desk_types.specs.declared.command.Person.{Person}
+use Rattle.desk_types.specs.declared.proposal.ProposalState.TheVariants as states
 use Rattle.desk_history.specs.Calls.{GoesOnFrom, History, Item}
 use Rattle.desk_history.specs.Proposals.{Named, proposal, proposal_state, proposals, proposed_by}
 use Rattle.desk_history.specs.Runs.{is_legal}

@@ -2,16 +2,16 @@
 -- confirms.
 use Rattle.std.specs.Prelude.{ℕ, ◌+◌, ◌==◌, Bool, List, [], ◌∷◌, length, filter_map, find, Option, Some, None}
 use Rattle.std.specs.Option.{option_map_or}
-use Rattle.desk_texts.specs.Callers.{caller_name}
-use Rattle.desk_texts.specs.Imports.{Imported, no_entries}
-use Rattle.desk_texts.specs.declared.command.Call.{Call}
-use Rattle.desk_texts.specs.declared.command.Command.{Command}
-use Rattle.desk_texts.specs.declared.command.Command.TheVariants as command
-use Rattle.desk_texts.specs.declared.proposal.ProposalKind.{ProposalKind}
-use Rattle.desk_texts.specs.declared.proposal.ProposalKind.TheVariants as kinds
-use Rattle.desk_texts.specs.declared.proposal.ProposalOutcome.{ProposalOutcome}
-use Rattle.desk_texts.specs.declared.proposal.ProposalState.{ProposalState}
-use Rattle.desk_texts.specs.declared.proposal.ProposalState.TheVariants as states
+use Rattle.desk_types.specs.Callers.{caller_name}
+use Rattle.desk_types.specs.Imports.{Imported, no_entries}
+use Rattle.desk_types.specs.declared.command.Call.{Call}
+use Rattle.desk_types.specs.declared.command.Command.{Command}
+use Rattle.desk_types.specs.declared.command.Command.TheVariants as command
+use Rattle.desk_types.specs.declared.proposal.ProposalKind.{ProposalKind}
+use Rattle.desk_types.specs.declared.proposal.ProposalKind.TheVariants as kinds
+use Rattle.desk_types.specs.declared.proposal.ProposalOutcome.{ProposalOutcome}
+use Rattle.desk_types.specs.declared.proposal.ProposalState.{ProposalState}
+use Rattle.desk_types.specs.declared.proposal.ProposalState.TheVariants as states
 use Rattle.desk_history.specs.Calls.{First, History, Item, Second}
 
 -- the entries that a command names to be revoked or raised, written as an import, and their kind

@@ -2,22 +2,22 @@
 use Rattle.std.specs.Prelude.{ℕ, Bool, true, false, not, ◌&&◌, ◌||◌, nat_lt, if◌then◌else◌, List, ◌∷◌, find, Option, Some, None, is_some, bytes_eq, codes}
 use Rattle.std.specs.List.{list_any}
 use Rattle.std.specs.Option.{option_map_or, option_or}
-use Rattle.desk_bytes.specs.declared.refusal.Refusal.{Refusal}
-use Rattle.desk_bytes.specs.declared.refusal.Refusal.TheVariants as refusals
-use Rattle.desk_texts.specs.declared.command.Call.{Call}
-use Rattle.desk_texts.specs.declared.caller.Caller.{Caller}
-use Rattle.desk_texts.specs.declared.caller.Caller.TheVariants as caller
-use Rattle.desk_texts.specs.declared.command.Command.{Command}
-use Rattle.desk_texts.specs.declared.command.Command.TheVariants as command
-use Rattle.desk_texts.specs.declared.facts.Facts.{Facts}
-use Rattle.desk_texts.specs.declared.kind.ListedKind.TheVariants as kinds
-use Rattle.desk_texts.specs.declared.command.Person.{Person}
-use Rattle.desk_texts.specs.declared.command.Raise.{Raise}
-use Rattle.desk_texts.specs.declared.proposal.ProposalState.{ProposalState}
-use Rattle.desk_texts.specs.declared.proposal.ProposalState.TheVariants as proposal_states
-use Rattle.desk_texts.specs.declared.state.State.{State}
-use Rattle.desk_texts.specs.declared.state.State.TheVariants as states
-use Rattle.desk_texts.specs.Callers.{caller_name}
+use Rattle.base.specs.declared.refusal.Refusal.{Refusal}
+use Rattle.base.specs.declared.refusal.Refusal.TheVariants as refusals
+use Rattle.desk_types.specs.declared.command.Call.{Call}
+use Rattle.desk_types.specs.declared.caller.Caller.{Caller}
+use Rattle.desk_types.specs.declared.caller.Caller.TheVariants as caller
+use Rattle.desk_types.specs.declared.command.Command.{Command}
+use Rattle.desk_types.specs.declared.command.Command.TheVariants as command
+use Rattle.desk_types.specs.declared.facts.Facts.{Facts}
+use Rattle.desk_types.specs.declared.kind.ListedKind.TheVariants as kinds
+use Rattle.desk_types.specs.declared.command.Person.{Person}
+use Rattle.desk_types.specs.declared.command.Raise.{Raise}
+use Rattle.desk_types.specs.declared.proposal.ProposalState.{ProposalState}
+use Rattle.desk_types.specs.declared.proposal.ProposalState.TheVariants as proposal_states
+use Rattle.desk_types.specs.declared.state.State.{State}
+use Rattle.desk_types.specs.declared.state.State.TheVariants as states
+use Rattle.desk_types.specs.Callers.{caller_name}
 use Rattle.desk_history.specs.Calls.{History, Item, item}
 use Rattle.desk_history.specs.Forces.{forced}
 use Rattle.desk_history.specs.Level.{is_above, is_sbat, level, raises_some, stamp}

@@ -1,14 +1,14 @@
 -- Replies to accepted calls, and the minutes.
 use Rattle.std.specs.Prelude.{ℕ, ◌+◌, ◌-◌, List, [], ◌∷◌, length, filter}
 use Rattle.std.specs.Option.{option_map_or}
-use Rattle.desk_texts.specs.declared.command.Call.{Call}
-use Rattle.desk_texts.specs.declared.command.Command.{Command}
-use Rattle.desk_texts.specs.declared.command.Command.TheVariants as command
-use Rattle.desk_texts.specs.declared.kind.ListedKind.{ListedKind}
-use Rattle.desk_texts.specs.declared.kind.ListedKind.TheVariants as kinds
-use Rattle.desk_texts.specs.declared.reply.Counts.{Counts}
-use Rattle.desk_texts.specs.declared.reply.Reply.{Reply}
-use Rattle.desk_texts.specs.declared.reply.Reply.TheVariants as replies
+use Rattle.desk_types.specs.declared.command.Call.{Call}
+use Rattle.desk_types.specs.declared.command.Command.{Command}
+use Rattle.desk_types.specs.declared.command.Command.TheVariants as command
+use Rattle.desk_types.specs.declared.kind.ListedKind.{ListedKind}
+use Rattle.desk_types.specs.declared.kind.ListedKind.TheVariants as kinds
+use Rattle.desk_types.specs.declared.reply.Counts.{Counts}
+use Rattle.desk_types.specs.declared.reply.Reply.{Reply}
+use Rattle.desk_types.specs.declared.reply.Reply.TheVariants as replies
 use Rattle.desk_history.specs.declared.rows.Minute.{Minute}
 use Rattle.desk_history.specs.Calls.{First, History, Item, Rules, Second, distinct, item}
 use Rattle.desk_history.specs.Forces.{InForce, enforced_by, into_force}
@@ -16,7 +16,7 @@ use Rattle.desk_history.specs.Level.{names, raises}
 use Rattle.desk_history.specs.Proposals.{proposals}
 use Rattle.desk_history.specs.Requests.{requests, state}
 use Rattle.desk_history.specs.Revocations.{revocations}
-use Rattle.desk_texts.specs.CommandTexts.{text_of}
+use Rattle.desk_types.specs.CommandTexts.{text_of}
 
 -- the number of different digests of this kind that are revoked after the call and weren't before
 abbrev pub gained : ListedKind → History → Item → ℕ

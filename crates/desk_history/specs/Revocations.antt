@@ -1,7 +1,7 @@
 -- Revocations: the entries of dbx (UEFI 2.10, 32.4.1), image digests and certificates by their TBS
 -- digests.
 use Rattle.std.specs.Prelude.{ℕ, Bool, List, [], ◌∷◌, ◌++◌}
-use Rattle.desk_texts.specs.declared.kind.ListedKind.{ListedKind}
+use Rattle.desk_types.specs.declared.kind.ListedKind.{ListedKind}
 use Rattle.desk_history.specs.Calls.{History, is_among}
 use Rattle.desk_history.specs.Forces.{into_force, revoked_in}
 

@@ -1,9 +1,9 @@
 -- The commands that each role gives.
 use Rattle.std.specs.Prelude.{Bool, true, false}
-use Rattle.desk_texts.specs.declared.command.Command.{Command}
-use Rattle.desk_texts.specs.declared.command.Command.TheVariants as command
-use Rattle.desk_texts.specs.declared.role.Role.{Role}
-use Rattle.desk_texts.specs.declared.role.Role.TheVariants as role
+use Rattle.desk_types.specs.declared.command.Command.{Command}
+use Rattle.desk_types.specs.declared.command.Command.TheVariants as command
+use Rattle.desk_types.specs.declared.role.Role.{Role}
+use Rattle.desk_types.specs.declared.role.Role.TheVariants as role
 
 -- own: the roles that submit requests
 abbrev pub asks : Role → Bool

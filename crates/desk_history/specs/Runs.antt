@@ -1,15 +1,15 @@
 -- Answers to calls, and runs of calls.
 use Rattle.std.specs.Prelude.{ℕ, Bool, true, false, not, ◌&&◌, if◌then◌else◌, List, [], ◌∷◌, find, Option, Some, None, bytes_eq}
 use Rattle.std.specs.List.{list_all}
-use Rattle.desk_bytes.specs.declared.refusal.Refusal.{Refusal}
-use Rattle.desk_bytes.specs.declared.refusal.Refusal.TheVariants as refusals
-use Rattle.desk_texts.specs.declared.command.Call.{Call}
-use Rattle.desk_texts.specs.declared.reply.Reply.{Reply}
-use Rattle.desk_texts.specs.Callers.{caller_name}
+use Rattle.base.specs.declared.refusal.Refusal.{Refusal}
+use Rattle.base.specs.declared.refusal.Refusal.TheVariants as refusals
+use Rattle.desk_types.specs.declared.command.Call.{Call}
+use Rattle.desk_types.specs.declared.reply.Reply.{Reply}
+use Rattle.desk_types.specs.Callers.{caller_name}
 use Rattle.desk_history.specs.Calls.{First, History, Item, Rules, Second, is_first, item, under}
 use Rattle.desk_history.specs.declared.rows.Minute.{Minute}
 use Rattle.desk_history.specs.Replies.{minutes, reply_to}
-use Rattle.desk_texts.specs.CommandTexts.{text_of}
+use Rattle.desk_types.specs.CommandTexts.{text_of}
 use Rattle.desk_history.specs.declared.answer.Answer.{Answer}
 use Rattle.desk_history.specs.declared.answer.Answer.TheVariants.{Accepted, Refused, Repeated}
 use Rattle.desk_history.specs.Refusals.{is_known, refusal_of}

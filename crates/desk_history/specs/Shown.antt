@@ -5,18 +5,18 @@ use Rattle.std.specs.List.Sorted.{IsPermutation, IsStrictlySortedBy}
 use Rattle.std.specs.Cmp.Lexicographic.{slice_cmp}
 use Rattle.std.specs.Ordering.{nat_cmp}
 use Rattle.std.specs.Result.{result_map_both}
-use Rattle.desk_bytes.specs.declared.refusal.Refusal.{Refusal}
-use Rattle.desk_bytes.specs.declared.refusal.Refusal.TheVariants as refusals
-use Rattle.desk_texts.specs.declared.caller.Caller.{Caller}
-use Rattle.desk_texts.specs.declared.caller.Caller.TheVariants as callers
-use Rattle.desk_texts.specs.declared.command.Person.{Person}
-use Rattle.desk_texts.specs.declared.proposal.Proposal.{Proposal as ShownProposal}
-use Rattle.desk_texts.specs.declared.role.Role.{Role}
-use Rattle.desk_texts.specs.declared.role.Role.TheVariants as roles
-use Rattle.desk_texts.specs.declared.shown.ShownRequest.{ShownRequest}
-use Rattle.desk_texts.specs.declared.shown.ShownReturn.{ShownReturn}
-use Rattle.desk_texts.specs.declared.shown.ShownVote.{ShownVote}
-use Rattle.desk_texts.specs.declared.state.State.{State}
+use Rattle.base.specs.declared.refusal.Refusal.{Refusal}
+use Rattle.base.specs.declared.refusal.Refusal.TheVariants as refusals
+use Rattle.desk_types.specs.declared.caller.Caller.{Caller}
+use Rattle.desk_types.specs.declared.caller.Caller.TheVariants as callers
+use Rattle.desk_types.specs.declared.command.Person.{Person}
+use Rattle.desk_types.specs.declared.proposal.Proposal.{Proposal as ShownProposal}
+use Rattle.desk_types.specs.declared.role.Role.{Role}
+use Rattle.desk_types.specs.declared.role.Role.TheVariants as roles
+use Rattle.desk_types.specs.declared.shown.ShownRequest.{ShownRequest}
+use Rattle.desk_types.specs.declared.shown.ShownReturn.{ShownReturn}
+use Rattle.desk_types.specs.declared.shown.ShownVote.{ShownVote}
+use Rattle.desk_types.specs.declared.state.State.{State}
 use Rattle.desk_history.specs.Calls.{History}
 use Rattle.desk_history.specs.People.{person}
 use Rattle.desk_history.specs.Proposals.{Proposal, proposal_state, proposals}

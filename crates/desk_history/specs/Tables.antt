@@ -1,8 +1,8 @@
 -- The tables of a history: lists of rows, whose order means nothing.
 use Rattle.std.specs.Prelude.{ℕ, ◌+◌, List, [], ◌∷◌, map, flat_map, count_by, unwrap_or, codes}
 use Rattle.sbat.specs.declared.component.Component.{Component}
-use Rattle.desk_texts.specs.declared.kind.ListedKind.TheVariants as kinds
-use Rattle.desk_texts.specs.declared.command.Person.{Person}
+use Rattle.desk_types.specs.declared.kind.ListedKind.TheVariants as kinds
+use Rattle.desk_types.specs.declared.command.Person.{Person}
 use Rattle.desk_history.specs.declared.rows.Entry.{Entry}
 use Rattle.desk_history.specs.declared.rows.Minute.{Minute}
 use Rattle.desk_history.specs.declared.rows.ProposalRow.{ProposalRow}
@@ -11,8 +11,8 @@ use Rattle.desk_history.specs.declared.rows.RequestComponentRow.{RequestComponen
 use Rattle.desk_history.specs.declared.rows.RequestRow.{RequestRow}
 use Rattle.desk_history.specs.declared.rows.ReturnRow.{ReturnRow}
 use Rattle.desk_history.specs.declared.rows.VoteRow.{VoteRow}
-use Rattle.desk_texts.specs.declared.proposal.ProposalState.{ProposalState}
-use Rattle.desk_texts.specs.declared.state.State.{State}
+use Rattle.desk_types.specs.declared.proposal.ProposalState.{ProposalState}
+use Rattle.desk_types.specs.declared.state.State.{State}
 use Rattle.desk_history.specs.Calls.{History, distinct, is_first}
 use Rattle.desk_history.specs.Level.{generations, greatest, names, stamp}
 use Rattle.desk_history.specs.Listing.{listed}

@@ -1,6 +1,6 @@
 //! Answers to calls.
-use desk_bytes::Refusal;
-use desk_texts::Reply;
+use base::Refusal;
+use desk_types::Reply;
 
 /// The answer to a call.
 #[derive(Drop)]

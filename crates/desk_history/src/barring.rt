@@ -5,7 +5,7 @@ ghost use Rattle.desk_history.specs.Impact as spec;
 use crate::impact::Rule;
 use crate::standing::Standing;
 use crate::verdicts::{has_revoked, has_revoked_digest};
-use desk_texts::Facts;
+use desk_types::Facts;
 use sbat::{Component, Generation};
 use std::alloc::AllocError;
 

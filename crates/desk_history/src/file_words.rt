@@ -2,16 +2,16 @@
 ghost use Rattle.std.specs.Prelude.{◌≡◌};
 ghost use Rattle.desk_history.specs.Files.{file_text};
 
-use crate::impact::File;
+use crate::impact::WhichFile;
 
-impl File {
+impl WhichFile {
     /// Its word: `submitted` or `returned`.
     pub fn text(self) -> &'static str
         ensures { result.now ≡ file_text self }
     {
         match self {
-            File::Submitted => "submitted",
-            File::Returned => "returned",
+            WhichFile::Submitted => "submitted",
+            WhichFile::Returned => "returned",
         }
     }
 }

@@ -1,10 +1,10 @@
 //! What a Confirm of a proposal would do.
-use desk_texts::{Counts, PersonName, RequestNumber, State, Title};
+use desk_types::{Counts, PersonName, RequestNumber, State, Title};
 use sbat::{Component, Generation};
 
 /// A file of a request.
 #[derive(Clone, Copy, Debug, PartialEq, Eq)]
-pub enum File {
+pub enum WhichFile {
     /// The file that was submitted.
     Submitted,
     /// The file that a signer returned.
@@ -28,7 +28,7 @@ pub struct BarredImage {
     /// Its request.
     pub request: RequestNumber,
     /// Which file of the request it is.
-    pub file: File,
+    pub file: WhichFile,
     /// The state of the request.
     pub state: State,
     /// Who submitted the request.

@@ -1,8 +1,8 @@
 //! Rows of the desk's tables.
 ghost use Rattle.std.specs.Prelude.{◌≡◌, ℕ, List, string_bytes};
 
-use desk_bytes::Digest;
-use desk_texts::{
+use base::Digest;
+use desk_types::{
     Caller, Import, Key, ListedKind, Note, PersonName, ProposalKind, ProposalNumber, ProposalState,
     Reply, RequestNumber, State, Title, Vote,
 };

@@ -8,8 +8,8 @@ ghost use Rattle.desk_history.specs.Verdicts.{bars as bars_on, lists_image as li
 
 use crate::standing::Standing;
 use crate::verdicts::{bars, lists_image};
-use desk_bytes::{Digest, Refusal};
-use desk_texts::{Command, Facts, ListedKind, ProposalState, Role, State};
+use base::{Digest, Refusal};
+use desk_types::{Command, Facts, ListedKind, ProposalState, Role, State};
 use sbat::{Generation, Stamp};
 
 /// True if both are of one kind.

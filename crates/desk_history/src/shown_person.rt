@@ -1,5 +1,5 @@
 //! People as an officer is shown them, and everybody themselves.
-use desk_texts::{PersonName, Role};
+use desk_types::{PersonName, Role};
 
 /// A person, without the SHA-256 of the token.
 #[derive(Debug, Drop)]

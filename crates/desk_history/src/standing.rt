@@ -2,8 +2,8 @@
 ghost use Rattle.std.specs.Prelude.{◌≡◌};
 ghost use Rattle.desk_history.specs.Verdicts.{Standing as Stands};
 
-use desk_bytes::Digest;
-use desk_texts::ListedKind;
+use base::Digest;
+use desk_types::ListedKind;
 use sbat::{ComponentName, Generation};
 
 /// The revoked and the listed entries, and the generations that the level requires.

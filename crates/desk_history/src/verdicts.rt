@@ -5,8 +5,8 @@ ghost use Rattle.desk_history.specs.Verdicts as spec;
 
 use crate::finding::{Below, Verdict};
 use crate::standing::Standing;
-use desk_bytes::Digest;
-use desk_texts::{Facts, ListedKind};
+use base::Digest;
+use desk_types::{Facts, ListedKind};
 use sbat::{Component, Generation};
 
 /// True if the image's digest, or the one that a signature of it would hold, is revoked.

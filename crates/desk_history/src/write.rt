@@ -3,7 +3,7 @@ use crate::{
     Entry, Minute, ProposalRow, RequestCertificateRow, RequestComponentRow, RequestRow, ReturnRow,
     VoteRow,
 };
-use desk_texts::{Listing, Outcome, Person, ProposalOutcome};
+use desk_types::{Listing, Outcome, Person, ProposalOutcome};
 use sbat::{Component, Stamp};
 
 /// A write of one row.

@@ -2,21 +2,21 @@
 use Rattle.std.proofs.Common.{◌≡◌, ℕ, ◌∙◌, true, false, List, [], ◌∷◌, ◌++◌, Err, length, decimal, refl, sym, ap, append_assoc, arith}
 use Rattle.std.specs.Prelude.{IsErrOf, bytes_eq, codes}
 use Rattle.sbat.specs.Fields.{decimal_of}
-use Rattle.desk_texts.specs.Callers.{caller_name}
-use Rattle.desk_texts.specs.Commands.{IsCount}
-use Rattle.desk_texts.specs.CommandTexts.{text_of}
-use Rattle.desk_texts.specs.Forms.{is_between}
-use Rattle.desk_texts.specs.ReplyTexts.{reply_text_of}
-use Rattle.desk_texts.specs.declared.caller.Caller.{Caller}
-use Rattle.desk_texts.specs.declared.command.Call.{Call}
-use Rattle.desk_texts.specs.declared.command.Command.{Command}
-use Rattle.desk_texts.specs.declared.reply.Reply.{Reply}
-use Rattle.desk_texts.proofs.FieldLemmas.{free-append, free-by}
-use Rattle.desk_texts.proofs.FormLemmas.{printable-key}
-use Rattle.desk_texts.proofs.ReadingLemmas.{text_of-same}
-use Rattle.desk_texts.proofs.ReplyLemmas.{reply_text_of-same}
-use Rattle.desk_texts.proofs.SpaceLemmas.{cut_once, cut_whole}
-use Rattle.desk_texts.proofs.ValueLemmas.{decimal_read}
+use Rattle.desk_types.specs.Callers.{caller_name}
+use Rattle.desk_types.specs.Commands.{IsCount}
+use Rattle.desk_types.specs.CommandTexts.{text_of}
+use Rattle.desk_types.specs.Forms.{is_between}
+use Rattle.desk_types.specs.ReplyTexts.{reply_text_of}
+use Rattle.desk_types.specs.declared.caller.Caller.{Caller}
+use Rattle.desk_types.specs.declared.command.Call.{Call}
+use Rattle.desk_types.specs.declared.command.Command.{Command}
+use Rattle.desk_types.specs.declared.reply.Reply.{Reply}
+use Rattle.desk_types.proofs.FieldLemmas.{free-append, free-by}
+use Rattle.desk_types.proofs.FormLemmas.{printable-key}
+use Rattle.desk_types.proofs.ReadingLemmas.{text_of-same}
+use Rattle.desk_types.proofs.ReplyLemmas.{reply_text_of-same}
+use Rattle.desk_types.proofs.SpaceLemmas.{cut_once, cut_whole}
+use Rattle.desk_types.proofs.ValueLemmas.{decimal_read}
 use Rattle.desk_history.specs.Called.{called}
 use Rattle.desk_history.proofs.CallerLemmas.{same_caller}
 use Rattle.desk_history.proofs.ListLemmas.{bytes_eq-refl}

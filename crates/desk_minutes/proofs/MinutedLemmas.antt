@@ -4,11 +4,11 @@ use Rattle.std.specs.Prelude.{if◌then◌else◌, is_some, reverse}
 use Rattle.std.specs.List.{flat_map, list_all, list_any}
 use Rattle.std.proofs.lemmas.Bool.{and_parts}
 use Rattle.std.proofs.lemmas.List.Elements.{All-cons, All-head, All-nil, All-tail}
-use Rattle.desk_texts.specs.CommandTexts.{text_of}
-use Rattle.desk_texts.specs.Formed.{IsCall}
-use Rattle.desk_texts.specs.declared.command.Call.{Call}
-use Rattle.desk_texts.proofs.FormLemmas.{both, joined}
-use Rattle.desk_texts.proofs.ReadingLemmas.{text_of-same}
+use Rattle.desk_types.specs.CommandTexts.{text_of}
+use Rattle.desk_types.specs.Formed.{IsCall}
+use Rattle.desk_types.specs.declared.command.Call.{Call}
+use Rattle.desk_types.proofs.FormLemmas.{both, joined}
+use Rattle.desk_types.proofs.ReadingLemmas.{text_of-same}
 use Rattle.desk_history.specs.Calls.{First, History, Item, Rules, Second, is_first, under}
 use Rattle.desk_history.specs.Formed.{IsHistory, IsItem}
 use Rattle.desk_history.specs.Proposals.{outcome_by}

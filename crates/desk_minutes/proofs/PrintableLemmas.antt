@@ -8,31 +8,31 @@ use Rattle.std.proofs.lemmas.List.Elements.{All-head, All-tail}
 use Rattle.hex.specs.Hex.{IsBytes, encode_lower}
 use Rattle.sbat.specs.declared.component.Component.{Component}
 use Rattle.sbat.specs.Fields.{is_name, is_name_byte}
-use Rattle.desk_texts.specs.Callers.{caller_name}
-use Rattle.desk_texts.specs.Commands.{IsCaller, IsCommand, IsComponent, IsCount, IsDigest, IsFacts, IsReply, IsStamp}
-use Rattle.desk_texts.specs.CommandTexts.{text_of}
-use Rattle.desk_texts.specs.Forms.{is_between}
-use Rattle.desk_texts.specs.Items.{component_text, components_text, digests_text, facts_text, list_text, stamp_text}
-use Rattle.desk_texts.specs.ReplyTexts.{reply_text_of}
-use Rattle.desk_texts.specs.Words.{kind_text, role_text, state_text, vote_text}
-use Rattle.desk_texts.specs.declared.caller.Caller.{Caller}
-use Rattle.desk_texts.specs.declared.caller.Caller.TheVariants as callers
-use Rattle.desk_texts.specs.declared.command.Command.{Command}
-use Rattle.desk_texts.specs.declared.command.Command.TheVariants.{AddPerson, Submit, Review, Withdraw, Return, ListCertificate, ListDigest, Unlist, RevokeDigest, RevokeCertificate, RaiseLevel, ImportRevocations, Confirm, Drop, Explain}
-use Rattle.desk_texts.specs.declared.facts.Facts.{Facts}
-use Rattle.desk_texts.specs.declared.kind.ListedKind.{ListedKind}
-use Rattle.desk_texts.specs.declared.kind.ListedKind.TheVariants as kinds
-use Rattle.desk_texts.specs.declared.reply.Reply.{Reply}
-use Rattle.desk_texts.specs.declared.reply.Reply.TheVariants.{Added, Submitted, Reviewed, Withdrawn, Returned, Listed, Unlisted, Revoked, Raised, Imported, Proposed, Confirmed, Dropped, Explained}
-use Rattle.desk_texts.specs.declared.role.Role.{Role}
-use Rattle.desk_texts.specs.declared.role.Role.TheVariants.{Submitter, Reviewer, Officer, Signer}
-use Rattle.desk_texts.specs.declared.state.State.{State}
-use Rattle.desk_texts.specs.declared.state.State.TheVariants as states
-use Rattle.desk_texts.specs.declared.vote.Vote.{Vote}
-use Rattle.desk_texts.specs.declared.vote.Vote.TheVariants.{Yes, No}
-use Rattle.desk_texts.proofs.FormLemmas.{both, joined, list_all-weaker, printable-note, printable-person_name, printable-reason, printable-title}
-use Rattle.desk_texts.proofs.PartLemmas.{request_small}
-use Rattle.desk_texts.proofs.ValueLemmas.{decimal_digits, generation_small, hex_digits, name_bytes, stamp_size}
+use Rattle.desk_types.specs.Callers.{caller_name}
+use Rattle.desk_types.specs.Commands.{IsCaller, IsCommand, IsComponent, IsCount, IsDigest, IsFacts, IsReply, IsStamp}
+use Rattle.desk_types.specs.CommandTexts.{text_of}
+use Rattle.desk_types.specs.Forms.{is_between}
+use Rattle.desk_types.specs.Items.{component_text, components_text, digests_text, facts_text, list_text, stamp_text}
+use Rattle.desk_types.specs.ReplyTexts.{reply_text_of}
+use Rattle.desk_types.specs.Words.{kind_text, role_text, state_text, vote_text}
+use Rattle.desk_types.specs.declared.caller.Caller.{Caller}
+use Rattle.desk_types.specs.declared.caller.Caller.TheVariants as callers
+use Rattle.desk_types.specs.declared.command.Command.{Command}
+use Rattle.desk_types.specs.declared.command.Command.TheVariants.{AddPerson, Submit, Review, Withdraw, Return, ListCertificate, ListDigest, Unlist, RevokeDigest, RevokeCertificate, RaiseLevel, ImportRevocations, Confirm, Drop, Explain}
+use Rattle.desk_types.specs.declared.facts.Facts.{Facts}
+use Rattle.desk_types.specs.declared.kind.ListedKind.{ListedKind}
+use Rattle.desk_types.specs.declared.kind.ListedKind.TheVariants as kinds
+use Rattle.desk_types.specs.declared.reply.Reply.{Reply}
+use Rattle.desk_types.specs.declared.reply.Reply.TheVariants.{Added, Submitted, Reviewed, Withdrawn, Returned, Listed, Unlisted, Revoked, Raised, Imported, Proposed, Confirmed, Dropped, Explained}
+use Rattle.desk_types.specs.declared.role.Role.{Role}
+use Rattle.desk_types.specs.declared.role.Role.TheVariants.{Submitter, Reviewer, Officer, Signer}
+use Rattle.desk_types.specs.declared.state.State.{State}
+use Rattle.desk_types.specs.declared.state.State.TheVariants as states
+use Rattle.desk_types.specs.declared.vote.Vote.{Vote}
+use Rattle.desk_types.specs.declared.vote.Vote.TheVariants.{Yes, No}
+use Rattle.desk_types.proofs.FormLemmas.{both, joined, list_all-weaker, printable-note, printable-person_name, printable-reason, printable-title}
+use Rattle.desk_types.proofs.PartLemmas.{request_small}
+use Rattle.desk_types.proofs.ValueLemmas.{decimal_digits, generation_small, hex_digits, name_bytes, stamp_size}
 
 -- each byte is a printable character of ASCII
 abbrev pub is_printable : List ℕ → Bool

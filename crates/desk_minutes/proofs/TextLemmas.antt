@@ -8,13 +8,13 @@ use Rattle.std.proofs.lemmas.Bool.Decides.{nat_tests}
 use Rattle.std.proofs.lemmas.List.{reverse-append, reverse-reverse}
 use Rattle.std.proofs.lemmas.List.Concat.{flat_map-append}
 use Rattle.std.proofs.lemmas.List.Elements.{All-append, All-cons, All-head, All-nil, All-tail}
-use Rattle.desk_texts.specs.Callers.{caller_name}
-use Rattle.desk_texts.specs.ReplyTexts.{reply_text_of}
-use Rattle.desk_texts.specs.declared.command.Call.{Call}
-use Rattle.desk_texts.specs.declared.reply.Reply.{Reply}
-use Rattle.desk_texts.proofs.FieldLemmas.{free-append}
-use Rattle.desk_texts.proofs.FormLemmas.{joined}
-use Rattle.desk_texts.proofs.SpaceLemmas.{cut_once, cut_whole}
+use Rattle.desk_types.specs.Callers.{caller_name}
+use Rattle.desk_types.specs.ReplyTexts.{reply_text_of}
+use Rattle.desk_types.specs.declared.command.Call.{Call}
+use Rattle.desk_types.specs.declared.reply.Reply.{Reply}
+use Rattle.desk_types.proofs.FieldLemmas.{free-append}
+use Rattle.desk_types.proofs.FormLemmas.{joined}
+use Rattle.desk_types.proofs.SpaceLemmas.{cut_once, cut_whole}
 use Rattle.desk_history.specs.Calls.{History, Item}
 use Rattle.desk_history.specs.Formed.{IsHistory, IsItem, IsReadable}
 use Rattle.desk_history.specs.Limits.{most_calls}

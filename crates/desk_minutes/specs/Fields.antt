@@ -1,9 +1,9 @@
 -- The fields of a line of minutes, as bytes.
 use Rattle.std.specs.Prelude.{◌≡◌, ℕ, ◌==◌, Bool, true, not, List, ◌++◌, codes}
 use Rattle.std.specs.List.{list_all}
-use Rattle.desk_texts.specs.Callers.{caller_name}
-use Rattle.desk_texts.specs.CommandTexts.{text_of}
-use Rattle.desk_texts.specs.declared.command.Call.{Call}
+use Rattle.desk_types.specs.Callers.{caller_name}
+use Rattle.desk_types.specs.CommandTexts.{text_of}
+use Rattle.desk_types.specs.declared.command.Call.{Call}
 
 -- the text doesn't have the byte
 abbrev pub is_without : ℕ → List ℕ → Bool

@@ -1,11 +1,11 @@
 -- Lines of minutes, of calls in their forms and within their limits.
 use Rattle.std.specs.Prelude.{◌≡◌, ℕ, ◌<◌, ◌^◌, List, ◌++◌, true}
-use Rattle.desk_texts.specs.Callers.{is_told_by_name}
-use Rattle.desk_texts.specs.Commands.{IsReply}
-use Rattle.desk_texts.specs.CommandTexts.{text_of}
-use Rattle.desk_texts.specs.Formed.{IsCall}
-use Rattle.desk_texts.specs.declared.command.Call.{Call}
-use Rattle.desk_texts.specs.declared.reply.Reply.{Reply}
+use Rattle.desk_types.specs.Callers.{is_told_by_name}
+use Rattle.desk_types.specs.Commands.{IsReply}
+use Rattle.desk_types.specs.CommandTexts.{text_of}
+use Rattle.desk_types.specs.Formed.{IsCall}
+use Rattle.desk_types.specs.declared.command.Call.{Call}
+use Rattle.desk_types.specs.declared.reply.Reply.{Reply}
 use Rattle.desk_history.specs.declared.rows.Minute.{Minute}
 use Rattle.desk_exports.specs.Exports.{minute_line}
 

@@ -1,8 +1,8 @@
 -- The rules of each call, by the minutes.
 use Rattle.std.specs.Prelude.{Bool, true, false, if◌then◌else◌, [], ◌∷◌}
 use Rattle.std.specs.List.{list_any}
-use Rattle.desk_texts.specs.declared.reply.Reply.{Reply}
-use Rattle.desk_texts.specs.declared.reply.Reply.TheVariants as replies
+use Rattle.desk_types.specs.declared.reply.Reply.{Reply}
+use Rattle.desk_types.specs.declared.reply.Reply.TheVariants as replies
 use Rattle.desk_history.specs.Calls.{First, History, Rules, Second, under}
 use Rattle.desk_history.specs.Replies.{minutes}
 

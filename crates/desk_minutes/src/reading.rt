@@ -1,14 +1,14 @@
 //! Lines of minutes, read.
 ghost use Rattle.std.specs.Prelude.{◌≡◌, ◌≢◌, IfOk, IsErrOf, bytes_eq, decimal, true};
-ghost use Rattle.desk_texts.specs.Callers.{is_told_by_name};
-ghost use Rattle.desk_texts.specs.Formed.{IsCall};
-ghost use Rattle.desk_texts.specs.declared.command.Call.{Call};
-ghost use Rattle.desk_texts.specs.declared.reply.Reply.{Reply};
+ghost use Rattle.desk_types.specs.Callers.{is_told_by_name};
+ghost use Rattle.desk_types.specs.Formed.{IsCall};
+ghost use Rattle.desk_types.specs.declared.command.Call.{Call};
+ghost use Rattle.desk_types.specs.declared.reply.Reply.{Reply};
 ghost use Rattle.desk_minutes.specs.Fields.{IsCallOf};
 ghost use Rattle.desk_minutes.specs.Lines.{IsTold, line_with};
 
 use crate::fields::{Fields, fields_of};
-use desk_texts::{Call, Caller, Command, Key, Reply, TextFault};
+use desk_types::{Call, Caller, Command, Key, Reply, TextFault};
 use itoa::Buffer;
 use std::alloc::Global;
 

@@ -1,7 +1,7 @@
 //! Replies, compared.
 ghost use Rattle.std.specs.Prelude.{◌≡◌, ◌≢◌, false, true};
 
-use desk_texts::Reply;
+use desk_types::Reply;
 
 /// Whether the replies are the same.
 pub fn is_same_reply(one: &Reply, other: &Reply) -> bool

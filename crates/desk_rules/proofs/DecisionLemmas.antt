@@ -3,22 +3,22 @@ use Rattle.std.proofs.Common.{◌≡◌, ℕ, Bool, true, false, not, ◌||◌, 
 use Rattle.std.specs.Prelude.{if◌then◌else◌, MatchResult, IsTrue, bytes_eq, codes, find, is_some}
 use Rattle.std.specs.List.{list_any}
 use Rattle.std.proofs.lemmas.Bool.{or_left}
-use Rattle.desk_bytes.specs.declared.refusal.Refusal.{Refusal}
-use Rattle.desk_bytes.specs.declared.refusal.Refusal.TheVariants as refusals
-use Rattle.desk_texts.specs.Certificates.{WholeCertificate}
-use Rattle.desk_texts.specs.declared.caller.Caller.{Caller}
-use Rattle.desk_texts.specs.declared.command.Call.{Call}
-use Rattle.desk_texts.specs.declared.command.Command.TheVariants as command
-use Rattle.desk_texts.specs.declared.command.Listing.{Listing}
-use Rattle.desk_texts.specs.declared.command.Person.{Person}
-use Rattle.desk_texts.specs.declared.kind.ListedKind.{ListedKind}
-use Rattle.desk_texts.specs.declared.kind.ListedKind.TheVariants as kinds
-use Rattle.desk_texts.specs.declared.reply.Reply.{Reply}
-use Rattle.desk_texts.specs.declared.reply.Reply.TheVariants as replies
+use Rattle.base.specs.declared.refusal.Refusal.{Refusal}
+use Rattle.base.specs.declared.refusal.Refusal.TheVariants as refusals
+use Rattle.desk_types.specs.Certificates.{WholeCertificate}
+use Rattle.desk_types.specs.declared.caller.Caller.{Caller}
+use Rattle.desk_types.specs.declared.command.Call.{Call}
+use Rattle.desk_types.specs.declared.command.Command.TheVariants as command
+use Rattle.desk_types.specs.declared.command.Listing.{Listing}
+use Rattle.desk_types.specs.declared.command.Person.{Person}
+use Rattle.desk_types.specs.declared.kind.ListedKind.{ListedKind}
+use Rattle.desk_types.specs.declared.kind.ListedKind.TheVariants as kinds
+use Rattle.desk_types.specs.declared.reply.Reply.{Reply}
+use Rattle.desk_types.specs.declared.reply.Reply.TheVariants as replies
 use Rattle.desk_history.specs.declared.rows.Entry.{Entry}
 use Rattle.desk_history.specs.declared.write.Write.{Write}
 use Rattle.desk_history.specs.declared.write.Write.TheVariants as writes
-use Rattle.desk_texts.specs.Callers.{caller_name}
+use Rattle.desk_types.specs.Callers.{caller_name}
 use Rattle.desk_history.specs.Calls.{History, is_among, item}
 use Rattle.desk_history.specs.Listing.{has_entry, is_entry, is_listed, listed, without}
 use Rattle.desk_history.specs.People.{has_name, has_token, people}

@@ -2,12 +2,12 @@
 use Rattle.std.proofs.Common.{◌≡◌, ℕ, true, List, [], ◌∷◌, Some, None, Ok, Err, Result, refl, sym, ◌∙◌, ap}
 use Rattle.std.specs.Prelude.{MatchResult, find}
 use Rattle.std.specs.List.{list_all}
-use Rattle.desk_bytes.specs.declared.refusal.Refusal.{Refusal}
-use Rattle.desk_texts.specs.Callers.{caller_name}
-use Rattle.desk_texts.specs.declared.caller.Caller.{Caller}
-use Rattle.desk_texts.specs.declared.command.Call.{Call}
-use Rattle.desk_texts.specs.declared.command.Command.{Command}
-use Rattle.desk_texts.specs.declared.command.Command.TheVariants as command
+use Rattle.base.specs.declared.refusal.Refusal.{Refusal}
+use Rattle.desk_types.specs.Callers.{caller_name}
+use Rattle.desk_types.specs.declared.caller.Caller.{Caller}
+use Rattle.desk_types.specs.declared.command.Call.{Call}
+use Rattle.desk_types.specs.declared.command.Command.{Command}
+use Rattle.desk_types.specs.declared.command.Command.TheVariants as command
 use Rattle.desk_history.specs.Called.{called}
 use Rattle.desk_history.specs.Calls.{First, History, is_first, item, under}
 use Rattle.desk_history.specs.Limits.{is_within}

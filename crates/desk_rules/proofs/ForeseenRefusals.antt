@@ -2,13 +2,13 @@
 use Rattle.std.proofs.Common.{◌≡◌, ℕ, Bool, true, false, not, ◌&&◌, Some, None, Err, Result, refl, sym, subst}
 use Rattle.std.specs.Prelude.{IfErr, IsTrue, if◌then◌else◌, nat_lt}
 use Rattle.std.specs.List.{list_any}
-use Rattle.desk_bytes.specs.declared.refusal.Refusal.{Refusal}
-use Rattle.desk_bytes.specs.declared.refusal.Refusal.TheVariants as refusals
-use Rattle.desk_texts.specs.Imports.{Imported}
-use Rattle.desk_texts.specs.declared.kind.ListedKind.TheVariants as kinds
-use Rattle.desk_texts.specs.declared.proposal.ProposalKind.{ProposalKind}
-use Rattle.desk_texts.specs.declared.proposal.ProposalKind.TheVariants as proposed
-use Rattle.desk_texts.specs.declared.proposal.ProposalState.{ProposalState}
+use Rattle.base.specs.declared.refusal.Refusal.{Refusal}
+use Rattle.base.specs.declared.refusal.Refusal.TheVariants as refusals
+use Rattle.desk_types.specs.Imports.{Imported}
+use Rattle.desk_types.specs.declared.kind.ListedKind.TheVariants as kinds
+use Rattle.desk_types.specs.declared.proposal.ProposalKind.{ProposalKind}
+use Rattle.desk_types.specs.declared.proposal.ProposalKind.TheVariants as proposed
+use Rattle.desk_types.specs.declared.proposal.ProposalState.{ProposalState}
 use Rattle.desk_history.specs.DecisionRefusals.{may_answer}
 use Rattle.desk_history.specs.Refusals.{confirm_by, is_closed, is_later, refuse_if}
 use Rattle.desk_rules.specs.declared.view.Changes.{Changes}

@@ -13,7 +13,7 @@ use Rattle.sbat.specs.Levels.{Generations, greater, raised}
 use Rattle.sbat.proofs.GenerationLemmas.{get-raised, ties}
 use Rattle.desk_history.specs.Calls.{is_among, distinct}
 use Rattle.desk_history.specs.Level.{greatest, greater_of, is_above, is_sbat, names}
-use Rattle.desk_texts.specs.Raising.{names_no_sbat}
+use Rattle.desk_types.specs.Raising.{names_no_sbat}
 use Rattle.desk_history.specs.Tables.{level_row, level_rows}
 use Rattle.desk_history.specs.Writes.{all_written, is_named, written}
 use Rattle.desk_rules.specs.declared.decisions.imports.SoFar.{SoFar}

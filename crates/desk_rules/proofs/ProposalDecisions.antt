@@ -3,17 +3,17 @@ use Rattle.std.proofs.Common.{◌≡◌, ◌⊎◌, ℕ, ◌+◌, ◌≤◌, Boo
 use Rattle.std.specs.Prelude.{◌++◌, IfErr, IfOk, MatchResult, bytes_eq, find, option_map}
 use Rattle.std.specs.Option.{option_map_or}
 use Rattle.std.proofs.lemmas.List.{length-map}
-use Rattle.desk_bytes.specs.declared.refusal.Refusal.{Refusal}
-use Rattle.desk_bytes.specs.declared.refusal.Refusal.TheVariants as refusals
-use Rattle.desk_texts.specs.Callers.{caller_name}
-use Rattle.desk_texts.specs.Forms.{greatest_number}
-use Rattle.desk_texts.specs.declared.caller.Caller.{Caller}
-use Rattle.desk_texts.specs.declared.command.Command.{Command}
-use Rattle.desk_texts.specs.declared.command.Command.TheVariants as command
-use Rattle.desk_texts.specs.declared.command.Explanation.{Explanation}
-use Rattle.desk_texts.specs.declared.proposal.ProposalState.{ProposalState}
-use Rattle.desk_texts.specs.declared.proposal.ProposalState.TheVariants as states
-use Rattle.desk_texts.specs.declared.reply.Reply.TheVariants as replies
+use Rattle.base.specs.declared.refusal.Refusal.{Refusal}
+use Rattle.base.specs.declared.refusal.Refusal.TheVariants as refusals
+use Rattle.desk_types.specs.Callers.{caller_name}
+use Rattle.desk_types.specs.Forms.{greatest_number}
+use Rattle.desk_types.specs.declared.caller.Caller.{Caller}
+use Rattle.desk_types.specs.declared.command.Command.{Command}
+use Rattle.desk_types.specs.declared.command.Command.TheVariants as command
+use Rattle.desk_types.specs.declared.command.Explanation.{Explanation}
+use Rattle.desk_types.specs.declared.proposal.ProposalState.{ProposalState}
+use Rattle.desk_types.specs.declared.proposal.ProposalState.TheVariants as states
+use Rattle.desk_types.specs.declared.reply.Reply.TheVariants as replies
 use Rattle.desk_history.specs.declared.rows.ProposalRow.{ProposalRow}
 use Rattle.desk_history.specs.declared.write.Write.TheVariants as writes
 use Rattle.desk_history.specs.Calls.{History, item}

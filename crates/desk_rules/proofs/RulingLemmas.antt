@@ -2,18 +2,18 @@
 use Rattle.std.proofs.Common.{◌≡◌, ℕ, ◌+◌, Bool, true, false, not, List, [], ◌∷◌, length, Option, Some, None, Ok, Err, Result, refl, sym, ◌∙◌, ap, subst, inl, inr}
 use Rattle.std.specs.Prelude.{if◌then◌else◌, find, is_some}
 use Rattle.std.specs.Option.{option_map_or, option_or}
-use Rattle.desk_bytes.specs.declared.refusal.Refusal.{Refusal}
-use Rattle.desk_bytes.specs.declared.refusal.Refusal.TheVariants as refusals
-use Rattle.desk_texts.specs.declared.caller.Caller.{Caller}
-use Rattle.desk_texts.specs.declared.caller.Caller.TheVariants as callers
-use Rattle.desk_texts.specs.declared.command.Call.{Call}
-use Rattle.desk_texts.specs.declared.command.Command.{Command}
-use Rattle.desk_texts.specs.declared.command.Person.{Person}
+use Rattle.base.specs.declared.refusal.Refusal.{Refusal}
+use Rattle.base.specs.declared.refusal.Refusal.TheVariants as refusals
+use Rattle.desk_types.specs.declared.caller.Caller.{Caller}
+use Rattle.desk_types.specs.declared.caller.Caller.TheVariants as callers
+use Rattle.desk_types.specs.declared.command.Call.{Call}
+use Rattle.desk_types.specs.declared.command.Command.{Command}
+use Rattle.desk_types.specs.declared.command.Person.{Person}
 use Rattle.desk_history.specs.declared.rows.Minute.{Minute}
 use Rattle.desk_history.specs.declared.write.Write.TheVariants as writes
-use Rattle.desk_texts.specs.Callers.{caller_name}
+use Rattle.desk_types.specs.Callers.{caller_name}
 use Rattle.desk_history.specs.Calls.{First, History, Item, Rules, Second, under}
-use Rattle.desk_texts.specs.CommandTexts.{text_of}
+use Rattle.desk_types.specs.CommandTexts.{text_of}
 use Rattle.desk_history.specs.People.{has_name, people}
 use Rattle.desk_history.specs.Replies.{minute_of, minutes, reply_to}
 use Rattle.desk_history.specs.Tables.{tables}

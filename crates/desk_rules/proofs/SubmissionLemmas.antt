@@ -4,23 +4,23 @@ use Rattle.std.specs.Prelude.{◌==◌, if◌then◌else◌, find, reverse}
 use Rattle.std.specs.List.{list_any}
 use Rattle.std.proofs.lemmas.List.Folds.{list_any-append}
 use Rattle.std.proofs.lemmas.List.{length-map, reverse-append, reverse-reverse}
-use Rattle.desk_bytes.specs.declared.refusal.Refusal.{Refusal}
-use Rattle.desk_bytes.specs.declared.refusal.Refusal.TheVariants as refusals
-use Rattle.desk_texts.specs.declared.caller.Caller.{Caller}
-use Rattle.desk_texts.specs.declared.command.Command.{Command}
-use Rattle.desk_texts.specs.declared.command.Command.TheVariants as command
-use Rattle.desk_texts.specs.declared.command.Submission.{Submission}
-use Rattle.desk_texts.specs.declared.facts.Facts.{Facts}
-use Rattle.desk_texts.specs.declared.reply.Reply.TheVariants as replies
+use Rattle.base.specs.declared.refusal.Refusal.{Refusal}
+use Rattle.base.specs.declared.refusal.Refusal.TheVariants as refusals
+use Rattle.desk_types.specs.declared.caller.Caller.{Caller}
+use Rattle.desk_types.specs.declared.command.Command.{Command}
+use Rattle.desk_types.specs.declared.command.Command.TheVariants as command
+use Rattle.desk_types.specs.declared.command.Submission.{Submission}
+use Rattle.desk_types.specs.declared.facts.Facts.{Facts}
+use Rattle.desk_types.specs.declared.reply.Reply.TheVariants as replies
 use Rattle.desk_history.specs.declared.rows.RequestCertificateRow.{RequestCertificateRow}
 use Rattle.desk_history.specs.declared.rows.RequestComponentRow.{RequestComponentRow}
 use Rattle.desk_history.specs.declared.rows.VoteRow.{VoteRow}
-use Rattle.desk_texts.specs.declared.state.State.{State}
-use Rattle.desk_texts.specs.declared.state.State.TheVariants as states
+use Rattle.desk_types.specs.declared.state.State.{State}
+use Rattle.desk_types.specs.declared.state.State.TheVariants as states
 use Rattle.desk_history.specs.declared.write.Write.{Write}
 use Rattle.desk_history.specs.declared.write.Write.TheVariants as writes
-use Rattle.desk_texts.specs.Callers.{caller_name}
-use Rattle.desk_texts.specs.Forms.{greatest_number}
+use Rattle.desk_types.specs.Callers.{caller_name}
+use Rattle.desk_types.specs.Forms.{greatest_number}
 use Rattle.desk_history.specs.Calls.{History, Item, item}
 use Rattle.desk_history.specs.Requests.{Request, Submitted, has_number, is_returned, is_withdrawn, numbered, request, requests, state, state_by, submitted, votes, votes_on}
 use Rattle.desk_history.specs.Tables.{Tables, certificate_rows, component_rows, request_row, tables}

@@ -1,9 +1,9 @@
 -- Decisions by the first rules, by which one officer alone revokes and raises.
 use Rattle.std.specs.Prelude.{◌≡◌, ◌⊎◌, ℕ, Bool, true, false, List, [], Result, MatchResult, IsTrue, is_some}
 use Rattle.std.specs.List.{list_all}
-use Rattle.desk_bytes.specs.declared.refusal.Refusal.{Refusal}
-use Rattle.desk_bytes.specs.declared.refusal.Refusal.TheVariants as refusals
-use Rattle.desk_texts.specs.declared.command.Call.{Call}
+use Rattle.base.specs.declared.refusal.Refusal.{Refusal}
+use Rattle.base.specs.declared.refusal.Refusal.TheVariants as refusals
+use Rattle.desk_types.specs.declared.command.Call.{Call}
 use Rattle.desk_history.specs.Calls.{First, History, is_first, under}
 use Rattle.desk_history.specs.Proposals.{named_by}
 use Rattle.desk_history.specs.Runs.{is_legal, next_item, ruling}

@@ -1,15 +1,15 @@
 -- Words of the steps of a decision by the first rules, which private functions cite.
 use Rattle.std.specs.Prelude.{ℕ, List, ◌∷◌, Result, MatchResult, IsTrue}
 use Rattle.std.specs.List.{list_all}
-use Rattle.desk_bytes.specs.declared.refusal.Refusal.{Refusal}
-use Rattle.desk_texts.specs.declared.caller.Caller.{Caller}
-use Rattle.desk_texts.specs.declared.command.Call.{Call}
-use Rattle.desk_texts.specs.declared.command.Command.{Command}
-use Rattle.desk_texts.specs.declared.proposal.ProposalKind.{ProposalKind}
-use Rattle.desk_texts.specs.declared.proposal.ProposalKind.TheVariants as kinds
-use Rattle.desk_texts.specs.declared.reply.Counts.{Counts}
-use Rattle.desk_texts.specs.declared.reply.Reply.{Reply}
-use Rattle.desk_texts.specs.declared.reply.Reply.TheVariants as replies
+use Rattle.base.specs.declared.refusal.Refusal.{Refusal}
+use Rattle.desk_types.specs.declared.caller.Caller.{Caller}
+use Rattle.desk_types.specs.declared.command.Call.{Call}
+use Rattle.desk_types.specs.declared.command.Command.{Command}
+use Rattle.desk_types.specs.declared.proposal.ProposalKind.{ProposalKind}
+use Rattle.desk_types.specs.declared.proposal.ProposalKind.TheVariants as kinds
+use Rattle.desk_types.specs.declared.reply.Counts.{Counts}
+use Rattle.desk_types.specs.declared.reply.Reply.{Reply}
+use Rattle.desk_types.specs.declared.reply.Reply.TheVariants as replies
 use Rattle.desk_history.specs.Called.{called}
 use Rattle.desk_history.specs.Calls.{First, History, is_first, under}
 use Rattle.desk_history.specs.Replies.{minutes}

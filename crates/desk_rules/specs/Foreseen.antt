@@ -1,10 +1,10 @@
 -- What a Confirm of a proposal by another officer would add, as a view tells it.
 use Rattle.std.specs.Prelude.{◌≡◌, ◌⊎◌, ℕ, ◌+◌, Bool, true, false, ◌&&◌, nat_le, if◌then◌else◌, IsTrue, List, Option, Some, None, Result, MatchResult}
-use Rattle.desk_bytes.specs.declared.refusal.Refusal.{Refusal}
-use Rattle.desk_bytes.specs.declared.refusal.Refusal.TheVariants as refusals
-use Rattle.desk_texts.specs.declared.caller.Caller.{Caller}
-use Rattle.desk_texts.specs.declared.command.Command.TheVariants as command
-use Rattle.desk_texts.specs.declared.reply.Counts.{Counts}
+use Rattle.base.specs.declared.refusal.Refusal.{Refusal}
+use Rattle.base.specs.declared.refusal.Refusal.TheVariants as refusals
+use Rattle.desk_types.specs.declared.caller.Caller.{Caller}
+use Rattle.desk_types.specs.declared.command.Command.TheVariants as command
+use Rattle.desk_types.specs.declared.reply.Counts.{Counts}
 use Rattle.desk_history.specs.Calls.{History}
 use Rattle.desk_history.specs.Impact.{impact_of, impact_refusal, list_length}
 use Rattle.desk_history.specs.Limits.{most_revoked_certificates, most_revoked_digests}

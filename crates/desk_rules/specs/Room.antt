@@ -1,11 +1,11 @@
 -- Room in the tables for the writes of a decision.
 use Rattle.std.specs.Prelude.{◌≡◌, ◌≤◌, ◌⊎◌, ℕ, ◌+◌, ◌==◌, Bool, true, false, ◌&&◌, ◌||◌, nat_le, List, ◌∷◌, length, count_by}
 use Rattle.std.specs.List.{list_any}
-use Rattle.desk_texts.specs.declared.command.Call.{Call}
+use Rattle.desk_types.specs.declared.command.Call.{Call}
 use Rattle.desk_history.specs.declared.write.Write.{Write}
 use Rattle.desk_history.specs.declared.write.Write.TheVariants as writes
-use Rattle.desk_texts.specs.declared.kind.ListedKind.{ListedKind}
-use Rattle.desk_texts.specs.declared.kind.ListedKind.TheVariants as kinds
+use Rattle.desk_types.specs.declared.kind.ListedKind.{ListedKind}
+use Rattle.desk_types.specs.declared.kind.ListedKind.TheVariants as kinds
 use Rattle.desk_history.specs.Calls.{History, is_same_kind, item}
 use Rattle.desk_history.specs.Listing.{listed}
 use Rattle.desk_history.specs.Limits.{most_calls, most_level_components, most_listed, most_people, most_proposals, most_requests, most_revoked_certificates, most_revoked_digests}

@@ -1,10 +1,10 @@
 -- Words of a decision by either rules, which private functions cite.
 use Rattle.std.specs.Prelude.{◌≡◌, ◌⊎◌, ℕ, List, [], ◌∷◌, None, Result, MatchResult, IsTrue}
 use Rattle.std.specs.List.{list_all}
-use Rattle.desk_bytes.specs.declared.refusal.Refusal.{Refusal}
-use Rattle.desk_bytes.specs.declared.refusal.Refusal.TheVariants as refusals
-use Rattle.desk_texts.specs.Callers.{caller_name}
-use Rattle.desk_texts.specs.declared.command.Call.{Call}
+use Rattle.base.specs.declared.refusal.Refusal.{Refusal}
+use Rattle.base.specs.declared.refusal.Refusal.TheVariants as refusals
+use Rattle.desk_types.specs.Callers.{caller_name}
+use Rattle.desk_types.specs.declared.command.Call.{Call}
 use Rattle.desk_history.specs.Calls.{First, History, Rules, Second, is_first, under}
 use Rattle.desk_history.specs.Limits.{is_within}
 use Rattle.desk_history.specs.Refusals.{own_refusal}

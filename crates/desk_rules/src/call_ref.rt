@@ -1,5 +1,5 @@
 //! A call, by its borrowed parts.
-use desk_texts::{Caller, Command, Key};
+use desk_types::{Caller, Command, Key};
 use std::marker::Model;
 
 /// A call whose parts are borrowed: a command, its caller, and the key under which the caller gives
@@ -12,7 +12,7 @@ pub struct CallRef<'a> {
 }
 
 impl<'a> Model for CallRef<'a> {
-    ghost use Rattle.desk_texts.specs.declared.command.Call.{Call};
+    ghost use Rattle.desk_types.specs.declared.command.Call.{Call};
     ghost use Rattle.desk_history.specs.Called.{called};
 
     ghost Value = { Call };

@@ -3,8 +3,8 @@
 ghost use Rattle.std.specs.Prelude.{◌≡◌, ◌+◌, find, option_copied, IfErr, IsTrue, MatchResult};
 ghost use Rattle.desk_history.specs.Called.{called};
 ghost use Rattle.desk_history.specs.DecisionRefusals.{may_answer};
-ghost use Rattle.desk_texts.specs.Callers.{caller_name};
-ghost use Rattle.desk_texts.specs.CommandTexts.{text_of as canonical_text};
+ghost use Rattle.desk_types.specs.Callers.{caller_name};
+ghost use Rattle.desk_types.specs.CommandTexts.{text_of as canonical_text};
 ghost use Rattle.desk_history.specs.Runs.{has_key};
 ghost use Rattle.desk_rules.specs.DecisionSteps as steps;
 ghost use Rattle.desk_rules.specs.Decisions as spec;
@@ -15,9 +15,9 @@ use crate::decisions::{decide_own, decide_own_first, push};
 use crate::room::has_room;
 use crate::rows::minute;
 use crate::view::{Changes, View};
-use desk_bytes::Refusal;
+use base::Refusal;
 use desk_history::{CommandText, Minute, Write};
-use desk_texts::{Caller, Command, Key, command_text};
+use desk_types::{Caller, Command, Key, command_text};
 use std::alloc::Global;
 
 impl View {

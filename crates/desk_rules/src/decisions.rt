@@ -11,13 +11,13 @@ mod submissions;
 ghost use Rattle.std.specs.Prelude.{◌≡◌, ◌≤◌, ◌+◌, [], ◌∷◌, ◌++◌, IfErr, IsTrue, MatchOption, OnOk};
 ghost use Rattle.desk_history.specs.DecisionRefusals.{may_answer};
 ghost use Rattle.desk_rules.specs.DecisionSteps.{DecidesOwn, Gives};
-ghost use Rattle.desk_texts.specs.Forms.{greatest_number};
-ghost use Rattle.desk_texts.specs.declared.command.Command.TheVariants.{Submit};
+ghost use Rattle.desk_types.specs.Forms.{greatest_number};
+ghost use Rattle.desk_types.specs.declared.command.Command.TheVariants.{Submit};
 
 use crate::view::{Changes, View};
-use desk_bytes::Refusal;
+use base::Refusal;
 use desk_history::Write;
-use desk_texts::{Caller, Command, GREATEST_NUMBER, Reply, RequestNumber, Submission};
+use desk_types::{Caller, Command, GREATEST_NUMBER, Reply, RequestNumber, Submission};
 pub(crate) use forcing::decide_own_first;
 pub(crate) use imports::set_of;
 use lists::{list_certificate, list_digest, unlist};

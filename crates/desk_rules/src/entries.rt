@@ -1,7 +1,7 @@
 //! The entries of a proposal, as they are looked up.
 ghost use Rattle.std.specs.Prelude.{◌≡◌, ℕ, List, IfErr, IfOk, reverse, true};
 ghost use Rattle.std.specs.FinMap.{get};
-ghost use Rattle.desk_texts.specs.Raising.{names_no_sbat};
+ghost use Rattle.desk_types.specs.Raising.{names_no_sbat};
 ghost use Rattle.desk_history.specs.Calls.{is_among};
 ghost use Rattle.desk_history.specs.Forces.{forced};
 ghost use Rattle.desk_history.specs.Impact.{standing_of};
@@ -9,9 +9,9 @@ ghost use Rattle.desk_history.specs.Level.{greatest};
 ghost use Rattle.desk_rules.specs.Entries as spec;
 
 use crate::decisions::set_of;
-use desk_bytes::{Digest, Refusal};
+use base::{Digest, Refusal};
 use desk_history::Standing;
-use desk_texts::{Import, ListedKind};
+use desk_types::{Import, ListedKind};
 use sbat::{Component, ComponentName, Generation, Level, Stamp};
 use std::alloc::{AllocError, Global};
 use std::collections::BTreeSet;
@@ -66,7 +66,7 @@ impl Entries {
     }
 
     /// The digests of this kind.
-    fn held(&self, kind: ListedKind) -> &BTreeSet<Digest>
+    fn digests_of(&self, kind: ListedKind) -> &BTreeSet<Digest>
         ensures { result.now.keys ≡ spec.held_digests self.now kind }
     {
         match kind {
@@ -80,7 +80,7 @@ impl Standing for Entries {
     ghost standing = { spec.held_standing };
 
     fn is_revoked(&self, kind: ListedKind, digest: Digest) -> bool {
-        holds(self.held(kind), digest)
+        holds(self.digests_of(kind), digest)
     }
 
     fn is_listed(&self, _kind: ListedKind, _digest: Digest) -> bool {

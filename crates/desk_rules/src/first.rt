@@ -7,8 +7,8 @@ ghost use Rattle.desk_rules.specs.First as spec;
 use crate::call_ref::CallRef;
 use crate::deciding::Rules;
 use crate::view::{Changes, View};
-use desk_bytes::Refusal;
-use desk_texts::{Caller, Command, Key};
+use base::Refusal;
+use desk_types::{Caller, Command, Key};
 use std::alloc::Global;
 
 /// The answer to a call by the first rules, and the rows that it writes, from the rows of the view:

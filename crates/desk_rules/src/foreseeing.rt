@@ -6,9 +6,9 @@ ghost use Rattle.desk_rules.specs.Foreseen as spec;
 use crate::decisions::confirm_another;
 use crate::room::has_room;
 use crate::view::{Sizes, View};
-use desk_bytes::Refusal;
+use base::Refusal;
 use desk_history::{MOST_REVOKED_CERTIFICATES, MOST_REVOKED_DIGESTS};
-use desk_texts::{Counts, ProposalNumber};
+use desk_types::{Counts, ProposalNumber};
 use std::alloc::Global;
 
 /// What a Confirm of a proposal by another officer than its proposer would add.

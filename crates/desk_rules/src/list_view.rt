@@ -3,9 +3,9 @@ ghost use Rattle.std.specs.Prelude.{◌≡◌, find, option_copied};
 ghost use Rattle.desk_history.specs.Writes.{is_named};
 ghost use Rattle.desk_rules.specs.Views as spec;
 
-use desk_bytes::Digest;
+use base::Digest;
 use desk_history::{Standing, Verdict, is_same, verdict_of};
-use desk_texts::{Facts, ListedKind, Listing};
+use desk_types::{Facts, ListedKind, Listing};
 use sbat::{Component, ComponentName, Generation};
 
 /// The rows for a verdict on an image: those of the listed and revoked entries and of the SBAT

@@ -7,7 +7,7 @@ use desk_history::{
     MOST_CALLS, MOST_LEVEL_COMPONENTS, MOST_LISTED, MOST_PEOPLE, MOST_PROPOSALS, MOST_REQUESTS,
     MOST_REVOKED_CERTIFICATES, MOST_REVOKED_DIGESTS, Write, is_same,
 };
-use desk_texts::ListedKind;
+use desk_types::ListedKind;
 
 /// True if a table of this size has room for these rows; if there are none, its size doesn't
 /// matter.

@@ -1,17 +1,17 @@
 //! The rows that decisions write.
 ghost use Rattle.std.specs.Prelude.{◌≡◌, [], MatchResult};
-ghost use Rattle.desk_texts.specs.Callers.{caller_name};
+ghost use Rattle.desk_types.specs.Callers.{caller_name};
 ghost use Rattle.desk_history.specs.Requests.{request_of};
 ghost use Rattle.desk_history.specs.Tables.{request_row};
 ghost use Rattle.desk_rules.specs.DecisionSteps as spec;
 
 use crate::call_ref::CallRef;
-use desk_bytes::{Digest, Refusal};
+use base::{Digest, Refusal};
 use desk_history::{
     CommandText, Entry, EntryBody, Minute, ProposalRow, RequestComponentRow, RequestRow, ReturnRow,
     VoteRow,
 };
-use desk_texts::{
+use desk_types::{
     Ballot, Caller, Certificate, Import, ListedKind, ProposalKind, ProposalNumber, ProposalState,
     Reply, RequestNumber, ReturnedFile, State, Submission,
 };

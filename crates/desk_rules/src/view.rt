@@ -1,7 +1,7 @@
 //! Rows of the tables for a decision, and its changes.
 use crate::list_view::ListView;
 use desk_history::{Minute, ProposalRow, RequestRow, VoteRow, Write};
-use desk_texts::{Person, Reply};
+use desk_types::{Person, Reply};
 use sbat::Stamp;
 
 /// A table whose rows a limit of the desk counts, other than the table of calls.

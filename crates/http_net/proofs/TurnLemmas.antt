@@ -1,10 +1,10 @@
 -- Connections that are served one after another.
 use Rattle.std.proofs.Common.{◌≡◌, ◌<◌, ◌+◌, ◌∙◌, ℕ, List, [], ◌∷◌, ◌++◌, inl, inr, refl, subst, length-append, None, Some, Result, Ok, Err}
 use Rattle.std.proofs.lemmas.List.Elements.{All-nil, All-push}
-use Rattle.desk_bytes.specs.declared.refusal.Refusal.{Refusal}
-use Rattle.desk_bytes.specs.declared.refusal.Refusal.TheVariants as refusals
-use Rattle.desk_http.specs.declared.served.HttpFault.{HttpFault}
-use Rattle.desk_http.specs.declared.served.Served.{Served}
+use Rattle.base.specs.declared.refusal.Refusal.{Refusal}
+use Rattle.base.specs.declared.refusal.Refusal.TheVariants as refusals
+use Rattle.http_exchange.specs.declared.served.HttpFault.{HttpFault}
+use Rattle.http_exchange.specs.declared.served.Served.{Served}
 use Rattle.http_net.specs.Served.{ending_of}
 use Rattle.http_net.specs.Turns.{AreServed, GoesOn, ServesInTurn}
 

@@ -1,7 +1,7 @@
 -- Refusals that stop a serving program.
 use Rattle.std.specs.Prelude.{◌≡◌, ◌⊎◌}
-use Rattle.desk_bytes.specs.declared.refusal.Refusal.{Refusal}
-use Rattle.desk_bytes.specs.declared.refusal.Refusal.TheVariants as refusals
+use Rattle.base.specs.declared.refusal.Refusal.{Refusal}
+use Rattle.base.specs.declared.refusal.Refusal.TheVariants as refusals
 
 -- own: the desk must be opened again
 abbrev pub IsLasting : Refusal → Type 0

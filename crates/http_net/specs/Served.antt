@@ -1,14 +1,14 @@
 -- Outcomes of a served connection.
 use Rattle.std.specs.Prelude.{Option, None, Some, Result, Ok, Err}
-use Rattle.desk_bytes.specs.declared.refusal.Refusal.{Refusal}
-use Rattle.desk_bytes.specs.declared.refusal.Refusal.TheVariants as refusals
+use Rattle.base.specs.declared.refusal.Refusal.{Refusal}
+use Rattle.base.specs.declared.refusal.Refusal.TheVariants as refusals
 use Rattle.http_responses.specs.declared.outage.Outage.TheVariants as outage
-use Rattle.desk_http.specs.declared.served.HttpFault.{HttpFault}
-use Rattle.desk_http.specs.declared.served.HttpFault.TheVariants as fault
-use Rattle.desk_http.specs.declared.served.Said.{Said}
-use Rattle.desk_http.specs.declared.served.Said.TheVariants as said
-use Rattle.desk_http.specs.declared.served.Served.{Served}
-use Rattle.desk_http.specs.declared.served.Served.TheVariants.{Answered, Nothing}
+use Rattle.http_exchange.specs.declared.served.HttpFault.{HttpFault}
+use Rattle.http_exchange.specs.declared.served.HttpFault.TheVariants as fault
+use Rattle.http_exchange.specs.declared.served.Said.{Said}
+use Rattle.http_exchange.specs.declared.served.Said.TheVariants as said
+use Rattle.http_exchange.specs.declared.served.Served.{Served}
+use Rattle.http_exchange.specs.declared.served.Served.TheVariants.{Answered, Nothing}
 
 -- own: after a response that says one of these the desk must be opened again
 abbrev pub lasting : Said → Option Refusal

@@ -1,9 +1,9 @@
 -- Connections served one after another, whatever serves each.
 use Rattle.std.specs.Prelude.{◌≡◌, ◌⊎◌, ◌<◌, ℕ, List, [], ◌∷◌, All, length, None, Some, Result, Ok, Err}
-use Rattle.desk_bytes.specs.declared.refusal.Refusal.{Refusal}
-use Rattle.desk_bytes.specs.declared.refusal.Refusal.TheVariants as refusals
-use Rattle.desk_http.specs.declared.served.HttpFault.{HttpFault}
-use Rattle.desk_http.specs.declared.served.Served.{Served}
+use Rattle.base.specs.declared.refusal.Refusal.{Refusal}
+use Rattle.base.specs.declared.refusal.Refusal.TheVariants as refusals
+use Rattle.http_exchange.specs.declared.served.HttpFault.{HttpFault}
+use Rattle.http_exchange.specs.declared.served.Served.{Served}
 use Rattle.http_net.specs.Served.{ending_of}
 
 -- the program goes on after this

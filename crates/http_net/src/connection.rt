@@ -1,12 +1,12 @@
 //! One request, from a reader or a connection.
 ghost use Rattle.std.specs.Prelude.{◌≢◌, Err};
-ghost use Rattle.desk_http.specs.Intakes.{EndIsCaused};
-ghost use Rattle.desk_http.specs.Serving.{AnswersOne};
+ghost use Rattle.http_exchange.specs.Intakes.{EndIsCaused};
+ghost use Rattle.http_exchange.specs.Serving.{AnswersOne};
 ghost use Rattle.http_net.specs.Wire.{IsOneRequest};
 
 use crate::{Timed, read_off};
-use desk_calls::Answering;
-use desk_http::{HttpFault, Intake, Served, serve_one};
+use http_calls::AnswersCalls;
+use http_exchange::{HttpFault, RequestReader, Served, serve_one};
 use http_requests::Routes;
 use std::alloc::Global;
 use std::io::{BufReader, Read, Write};
@@ -32,17 +32,17 @@ fn end_response<C: Clock>(clock: &C, stream: &TcpStream) {
     }
 }
 
-/// Answers the one request of a connection, which this reader reads, as desk_http's `serve_one`
+/// Answers the one request of a connection, which this reader reads, as http_exchange's `serve_one`
 /// does. It reads pieces of the input, which may hold bytes after the request. Takes memory.
 ///
 /// NoMemory: memory for a piece was refused, before anything was read, or as for `serve_one`. Read,
 /// Write: as for `serve_one`.
-pub fn answer_connection<D: Answering, R: Read + Drop, W: Write>(
+pub fn answer_connection<D: AnswersCalls, R: Read + Drop, W: Write>(
     alloc: Global,
     routes: &Routes,
     desk: &mut D,
     reader: R,
-    intake: &mut Intake,
+    intake: &mut RequestReader,
     writer: &mut W,
 ) -> Result<Served, HttpFault>
     ensures serves { AnswersOne D.shows D.clean D.failed (R.remaining reader)
@@ -57,7 +57,7 @@ pub fn answer_connection<D: Answering, R: Read + Drop, W: Write>(
 
 /// Serves one request of a connection. If memory for the reader is refused, or the peer misses its
 /// deadline, the connection ends without a response, or with the beginning of one.
-pub(crate) fn serve_stream<C: Clock, D: Answering>(
+pub(crate) fn serve_stream<C: Clock, D: AnswersCalls>(
     alloc: Global,
     clock: &C,
     routes: &Routes,
@@ -68,7 +68,7 @@ pub(crate) fn serve_stream<C: Clock, D: Answering>(
 {
     let reader = Timed::new(clock, stream);
     let mut writer = Timed::new(clock, stream);
-    let mut intake = Intake::new();
+    let mut intake = RequestReader::new();
     let served = answer_connection(alloc, routes, desk, reader, &mut intake, &mut writer);
     if was_answered(&served) {
         end_response(clock, stream);

@@ -1,16 +1,16 @@
 //! Peers that connect, one after another.
 ghost use Rattle.std.specs.Prelude.{◌≡◌, IfNone, IfSome};
 ghost use Rattle.std.specs.Prelude.{Result};
-ghost use Rattle.desk_http.specs.Serving.{FailsFirst};
-ghost use Rattle.desk_http.specs.declared.served.HttpFault.{HttpFault as Fault};
-ghost use Rattle.desk_http.specs.declared.served.Served.{Served as Came};
+ghost use Rattle.http_exchange.specs.Serving.{FailsFirst};
+ghost use Rattle.http_exchange.specs.declared.served.HttpFault.{HttpFault as Fault};
+ghost use Rattle.http_exchange.specs.declared.served.Served.{Served as Came};
 
-use desk_calls::Answering;
-use desk_http::{HttpFault, Served};
+use http_calls::AnswersCalls;
+use http_exchange::{HttpFault, Served};
 use std::alloc::Global;
 
 /// Where peers connect that a desk serves, one request each.
-pub(crate) trait Peers<D: Answering> {
+pub(crate) trait Peers<D: AnswersCalls> {
     /// What the next peer was served, of the desk before and after it.
     ghost serves: { Self → D → D → Result Came Fault → Type 0 };
 

@@ -3,8 +3,8 @@ ghost use Rattle.std.specs.Prelude.{◌≡◌, IfErr, IfSome};
 ghost use Rattle.http_net.specs.Faults.{IsAnsweringRefusal, IsLasting};
 ghost use Rattle.http_net.specs.Served as spec;
 
-use desk_bytes::Refusal;
-use desk_http::{Answered, HttpFault, Said, Served};
+use base::Refusal;
+use http_exchange::{Answered, HttpFault, Said, Served};
 use http_responses::Outage;
 
 /// The refusal after which the desk has to be opened again, where a response says so.

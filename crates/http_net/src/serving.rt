@@ -7,9 +7,9 @@ ghost use Rattle.http_net.specs.Wire.{IsOneRequest};
 use crate::connection::serve_stream;
 use crate::peers::Peers;
 use crate::served::ending_refusal;
-use desk_bytes::Refusal;
-use desk_calls::Answering;
-use desk_http::{HttpFault, Served};
+use base::Refusal;
+use http_calls::AnswersCalls;
+use http_exchange::{HttpFault, Served};
 use http_requests::Routes;
 use std::alloc::Global;
 use std::net::{Ipv4Addr, Net, SocketAddr, SocketAddrV4, TcpListener, TcpStream};
@@ -37,7 +37,7 @@ struct Callers<'l, C> {
     routes: &'l Routes,
 }
 
-impl<'l, C: Clock, D: Answering> Peers<D> for Callers<'l, C> {
+impl<'l, C: Clock, D: AnswersCalls> Peers<D> for Callers<'l, C> {
     ghost serves = { λ _. IsOneRequest D.shows D.clean D.failed };
 
     fn serve_next(&self, alloc: Global, desk: &mut D) -> Option<Result<Served, HttpFault>> {
@@ -49,7 +49,7 @@ impl<'l, C: Clock, D: Answering> Peers<D> for Callers<'l, C> {
 }
 
 /// Serves `count` peers, one after another, unless one of them ends the program first.
-fn serve_peers<D: Answering, P: Peers<D>>(
+fn serve_peers<D: AnswersCalls, P: Peers<D>>(
     alloc: Global,
     desk: &mut D,
     peers: &P,
@@ -80,7 +80,7 @@ fn serve_peers<D: Answering, P: Peers<D>>(
 ///
 /// Read: a connection couldn't be accepted. Store, Reopen: that response was written, and the desk
 /// must be opened again.
-pub fn serve<C: Clock, D: Answering>(
+pub fn serve<C: Clock, D: AnswersCalls>(
     alloc: Global,
     clock: &C,
     routes: &Routes,

@@ -11,7 +11,7 @@ use Rattle.http_requests.specs.heads.Heads.{FindsOf}
 use Rattle.http_requests.specs.heads.Limits.{most_bytes, most_fields}
 use Rattle.http_requests.specs.heads.Parsed.{IsParsed}
 use Rattle.http_requests.specs.declared.heads.head_spans.HeadSpans.{HeadSpans}
-use Rattle.http_requests.specs.declared.heads.begun.Begun.TheVariants.{Nothing, Head, NoHead}
+use Rattle.http_requests.specs.declared.heads.begun.HeadRead.TheVariants.{Nothing, Head, NoHead}
 
 -- of two ways to cut one list, the longer front holds the shorter one
 pub two_fronts : (a b c d : List ℕ) → a ++ b ≡ c ++ d → length a ≤ length c

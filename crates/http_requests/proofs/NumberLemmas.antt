@@ -1,9 +1,9 @@
--- The number at {no}, as desk_texts reads it.
+-- The number at {no}, as desk_types reads it.
 use Rattle.std.proofs.Common.{◌≡◌, ◌∙◌, ℕ, List, Bool, true, false, Option, Some, None, decimal, ap, refl, arith, cond}
 use Rattle.sbat.specs.Fields.{decimal_of}
 use Rattle.sbat.proofs.DigitLemmas.{decimal_of-decimal}
-use Rattle.desk_texts.specs.Forms.{is_decimal, is_request_number}
-use Rattle.desk_texts.proofs.NumberLemmas.{is_decimal-decimal, decimal_of-read, number_size}
+use Rattle.desk_types.specs.Forms.{is_decimal, is_request_number}
+use Rattle.desk_types.proofs.NumberLemmas.{is_decimal-decimal, decimal_of-read, number_size}
 
 -- the number of a text, if it is decimal
 abbrev number_of : List ℕ → Option ℕ

@@ -5,8 +5,8 @@ use Rattle.std.proofs.lemmas.List.{take_at}
 use Rattle.std.proofs.lemmas.Slice.Eq.{bytes_eq-Decides}
 use Rattle.hex.specs.Hex.{IsBytes, encode_lower, lower_digits}
 use Rattle.hex.proofs.HexLemmas.{length-encode_with}
-use Rattle.desk_bytes.specs.Digests.{digest_of}
-use Rattle.desk_bytes.proofs.DigestLemmas.{digest_of-text, digest_size}
+use Rattle.base.specs.Digests.{digest_of}
+use Rattle.base.proofs.DigestLemmas.{digest_of-text, digest_size}
 use Rattle.http_requests.specs.Tags.{digest_in_tag, entity_tag, tagged}
 
 -- a text that is too short for an entity tag is none

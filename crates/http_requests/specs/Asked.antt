@@ -1,19 +1,19 @@
 -- own: a request without its content, or the first of the checks on its fields that fails.
 use Rattle.std.specs.Prelude.{◌≡◌, ◌≢◌, ℕ, List, Option, Some, None, option_map, Result, Ok, Err, if◌then◌else◌}
 use Rattle.sbat.specs.Fields.{decimal_of, stamp_of}
-use Rattle.desk_texts.specs.Forms.{is_key, is_title, is_decimal}
-use Rattle.desk_texts.specs.declared.command.Command.TheVariants as command
-use Rattle.desk_texts.specs.declared.fault.TextFault.{TextFault}
-use Rattle.desk_texts.specs.declared.fault.TextFault.TheVariants as text
+use Rattle.desk_types.specs.Forms.{is_key, is_title, is_decimal}
+use Rattle.desk_types.specs.declared.command.Command.TheVariants as command
+use Rattle.desk_types.specs.declared.fault.TextFault.{TextFault}
+use Rattle.desk_types.specs.declared.fault.TextFault.TheVariants as text
 use Rattle.http_requests.specs.Targets.{minute_number}
-use Rattle.http_requests.specs.Wanted.{Want}
+use Rattle.http_requests.specs.CheckedHead.{Want}
 use Rattle.http_requests.specs.declared.ask.BytesAsked.TheVariants as bytes
 use Rattle.http_requests.specs.declared.ask.CommandAsked.{CommandAsked}
 use Rattle.http_requests.specs.declared.ask.CommandAsked.TheVariants.{Whole, Json, Bytes}
 use Rattle.http_requests.specs.declared.ask.ImageAsked.{ImageAsked}
 use Rattle.http_requests.specs.declared.ask.ImageAsked.TheVariants as image
 use Rattle.http_requests.specs.declared.ask.JsonAsked.TheVariants as json
-use Rattle.http_requests.specs.declared.ask.KeyedAsked.{KeyedAsked}
+use Rattle.http_requests.specs.declared.ask.KeyedCommand.{KeyedCommand}
 use Rattle.http_requests.specs.declared.ask.ReadAsked.{ReadAsked}
 use Rattle.http_requests.specs.declared.ask.ReadAsked.TheVariants.{Desk, Me}
 use Rattle.desk_exports.specs.declared.reading.Reading.TheVariants as read
@@ -136,17 +136,17 @@ command_at route.Drop w = of_proposal (number_in w) (λ number. Whole (command.D
 command_at route.Explain w = of_proposal (number_in w) (λ number. Json (json.Explain number))
 
 -- a command under this key
-abbrev pub under : List ℕ → Result CommandAsked AskedFault → Result KeyedAsked AskedFault
+abbrev pub under : List ℕ → Result CommandAsked AskedFault → Result KeyedCommand AskedFault
 under key (Err fault) = Err fault
 under key (Ok asked) = Ok (record { key = key; asked = asked })
 
 -- a command, under its key
-abbrev pub keyed : Option (List ℕ) → Result CommandAsked AskedFault → Result KeyedAsked AskedFault
+abbrev pub keyed : Option (List ℕ) → Result CommandAsked AskedFault → Result KeyedCommand AskedFault
 keyed None asked = Err BadField
 keyed (Some key) asked = under key asked
 
 -- the command of a route with its key, which is checked first
-abbrev pub keyed_at : CommandRoute → Want → Result KeyedAsked AskedFault
+abbrev pub keyed_at : CommandRoute → Want → Result KeyedCommand AskedFault
 keyed_at r w = keyed (key_in w) (command_at r w)
 
 -- the fault for a text that wasn't accepted

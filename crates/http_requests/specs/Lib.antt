@@ -5,7 +5,7 @@ pub mod Paths
 pub mod Routes
 pub mod Tags
 pub mod Targets
-pub mod Wanted
+pub mod CheckedHead
 pub mod Asked
 pub mod bodies
 pub mod heads

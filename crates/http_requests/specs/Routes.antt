@@ -1,6 +1,6 @@
 -- own: the route of each method of a path.
 use Rattle.std.specs.Prelude.{ℕ, List, Bool, true, false, codes, bytes_eq, if◌then◌else◌, Option, Some, None}
-use Rattle.desk_bytes.specs.Limits.{longest_image}
+use Rattle.base.specs.Limits.{longest_image}
 use Rattle.http_requests.specs.Targets.{from_part, number_part}
 use Rattle.http_requests.specs.declared.resource.Resource.{Resource}
 use Rattle.http_requests.specs.declared.resource.Resource.TheVariants as resource

@@ -1,9 +1,9 @@
 -- Preconditions of commands (RFC 9110, section 13.1.1): the entity tag that If-Match gives.
 use Rattle.std.specs.Prelude.{ℕ, List, Bool, true, false, ◌++◌, codes, take, drop, bytes_eq, if◌then◌else◌, Option, Some, None, Result, Ok, Err}
 use Rattle.hex.specs.Hex.{encode_lower}
-use Rattle.desk_bytes.specs.Digests.{digest_of}
+use Rattle.base.specs.Digests.{digest_of}
 use Rattle.http_requests.specs.heads.Fields.{Occurrence, missing, once, repeated}
-use Rattle.http_requests.specs.Wanted.{Want}
+use Rattle.http_requests.specs.CheckedHead.{Want}
 use Rattle.http_requests.specs.declared.fault.AskedFault.{AskedFault}
 use Rattle.http_requests.specs.declared.fault.AskedFault.TheVariants.{BadField}
 use Rattle.http_requests.specs.declared.route.CommandRoute.TheVariants as command

@@ -7,7 +7,7 @@ use Rattle.http_requests.specs.Routes.{route_of, methods_of, limit_of, part_of}
 use Rattle.http_requests.specs.declared.resource.Resource.{Resource}
 use Rattle.http_requests.specs.declared.route.Route.{Route}
 use Rattle.http_requests.specs.declared.route.Route.TheVariants.{Get, Post}
-use Rattle.http_requests.specs.declared.want.Wanted.{Wanted}
+use Rattle.http_requests.specs.declared.want.CheckedHead.{CheckedHead}
 use Rattle.http_requests.specs.declared.fault.WantedFault.{WantedFault}
 use Rattle.http_requests.specs.declared.fault.WantedFault.TheVariants.{BadField, NoRoute, BadMethod, LengthNeeded, TooLarge}
 
@@ -64,7 +64,7 @@ abbrev pub wanted_of : Parts → Result Want WantedFault
 wanted_of p = of_fields p (fields_of p)
 
 -- the request of a checked head in the code
-abbrev pub shown : Wanted → Want
+abbrev pub shown : CheckedHead → Want
 shown w = record {
   route = w.route;
   size = w.size;
@@ -77,6 +77,6 @@ shown w = record {
 }
 
 -- the code returns this
-abbrev pub Gives : Result Want WantedFault → Result Wanted WantedFault → Type 0
+abbrev pub Gives : Result Want WantedFault → Result CheckedHead WantedFault → Type 0
 Gives want (Ok given) = want ≡ Ok (shown given)
 Gives want (Err fault) = want ≡ Err fault

@@ -1,7 +1,7 @@
 //! A request without its body.
 
 use desk_exports::Reading;
-use desk_texts::{Command, Key, ProposalNumber, RequestNumber, Title};
+use desk_types::{Command, Key, ProposalNumber, RequestNumber, Title};
 use sbat::Stamp;
 
 /// A request to read.
@@ -28,7 +28,7 @@ pub enum ImageAsked {
 
 /// A command without an image, and the key under which the caller gives it.
 #[derive(Debug, Drop)]
-pub struct KeyedAsked {
+pub struct KeyedCommand {
     pub key: Key,
     pub asked: CommandAsked,
 }

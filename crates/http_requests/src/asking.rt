@@ -1,17 +1,17 @@
 //! The values of a request's fields, in their forms.
 ghost use Rattle.std.specs.Prelude.{◌≡◌};
 ghost use Rattle.http_requests.specs.Asked as spec;
-ghost use Rattle.http_requests.specs.Wanted as want;
+ghost use Rattle.http_requests.specs.CheckedHead as want;
 ghost use Rattle.http_requests.specs.declared.fault.AskedFault.TheVariants.{BadField, NoRoute};
 ghost use Rattle.http_requests.specs.declared.fault.AskedFault.TheVariants.{NoSuchProposal, NoSuchRequest};
 
 use crate::target::minute_number;
 use crate::{
     AskedFault, BytesAsked, CommandAsked, CommandRoute, GetRoute, ImageAsked, ImageRoute,
-    JsonAsked, KeyedAsked, ReadAsked, Wanted,
+    JsonAsked, KeyedCommand, ReadAsked, CheckedHead,
 };
 use desk_exports::Reading;
-use desk_texts::{Command, GREATEST_NUMBER, Key, ProposalNumber, RequestNumber, TextFault, Title};
+use desk_types::{Command, GREATEST_NUMBER, Key, ProposalNumber, RequestNumber, TextFault, Title};
 use sbat::Stamp;
 use std::alloc::Global;
 
@@ -26,7 +26,7 @@ fn of_text(fault: TextFault) -> AskedFault
 }
 
 /// The value of Desk-Key.
-fn key(alloc: Global, wanted: &Wanted<'_>) -> Result<Key, AskedFault>
+fn key(alloc: Global, wanted: &CheckedHead<'_>) -> Result<Key, AskedFault>
     ensures { spec.GivesOr BadField (spec.key_in (want.shown wanted.now)) result }
 {
     let Some(text) = wanted.key else {
@@ -39,7 +39,7 @@ fn key(alloc: Global, wanted: &Wanted<'_>) -> Result<Key, AskedFault>
 }
 
 /// The value of Desk-Title.
-fn title(alloc: Global, wanted: &Wanted<'_>) -> Result<Title, AskedFault>
+fn title(alloc: Global, wanted: &CheckedHead<'_>) -> Result<Title, AskedFault>
     ensures { spec.GivesOr BadField (spec.title_in (want.shown wanted.now)) result }
 {
     let Some(text) = wanted.title else {
@@ -52,7 +52,7 @@ fn title(alloc: Global, wanted: &Wanted<'_>) -> Result<Title, AskedFault>
 }
 
 /// The value of Desk-Stamp, which may be missing.
-fn stamp(wanted: &Wanted<'_>) -> Result<Option<Stamp>, AskedFault>
+fn stamp(wanted: &CheckedHead<'_>) -> Result<Option<Stamp>, AskedFault>
     ensures { spec.GivesOr BadField (spec.stamp_in (want.shown wanted.now)) result }
 {
     let Some(text) = wanted.stamp else {
@@ -65,7 +65,7 @@ fn stamp(wanted: &Wanted<'_>) -> Result<Option<Stamp>, AskedFault>
 }
 
 /// The request's number in the place of `{no}`.
-fn number(wanted: &Wanted<'_>) -> Result<RequestNumber, AskedFault>
+fn number(wanted: &CheckedHead<'_>) -> Result<RequestNumber, AskedFault>
     ensures { spec.GivesOr NoSuchRequest (spec.number_in (want.shown wanted.now)) result }
 {
     let Some(number) = RequestNumber::parse(wanted.number) else {
@@ -76,7 +76,7 @@ fn number(wanted: &Wanted<'_>) -> Result<RequestNumber, AskedFault>
 }
 
 /// The proposal's number in the place of `{no}`.
-fn proposal(wanted: &Wanted<'_>) -> Result<ProposalNumber, AskedFault>
+fn proposal(wanted: &CheckedHead<'_>) -> Result<ProposalNumber, AskedFault>
     ensures { spec.GivesOr NoSuchProposal (spec.number_in (want.shown wanted.now)) result }
 {
     let Some(number) = ProposalNumber::parse(wanted.number) else {
@@ -87,7 +87,7 @@ fn proposal(wanted: &Wanted<'_>) -> Result<ProposalNumber, AskedFault>
 }
 
 /// The number of a minute, or of the first entry of a part of a list, in the place of `{no}`.
-fn minute(wanted: &Wanted<'_>) -> Result<u64, AskedFault>
+fn minute(wanted: &CheckedHead<'_>) -> Result<u64, AskedFault>
     ensures { spec.GivesOr NoRoute (spec.minute_in (want.shown wanted.now)) result }
 {
     match minute_number(wanted.number) {
@@ -100,7 +100,7 @@ fn minute(wanted: &Wanted<'_>) -> Result<u64, AskedFault>
 /// at a path of proposals NoSuchProposal; at the paths of the minutes and of parts of lists it is 1
 /// to 7 such digits, or NoRoute, which `check_head` gives before. To be called once the caller is
 /// known.
-pub fn read_asked(route: GetRoute, wanted: &Wanted<'_>) -> Result<ReadAsked, AskedFault>
+pub fn read_asked(route: GetRoute, wanted: &CheckedHead<'_>) -> Result<ReadAsked, AskedFault>
     ensures { spec.Gives (spec.read_at route (want.shown wanted.now)) result }
 {
     match route {
@@ -130,7 +130,7 @@ pub fn read_asked(route: GetRoute, wanted: &Wanted<'_>) -> Result<ReadAsked, Ask
 pub fn image_asked(
     alloc: Global,
     route: ImageRoute,
-    wanted: &Wanted<'_>,
+    wanted: &CheckedHead<'_>,
 ) -> Result<ImageAsked, AskedFault>
     ensures { spec.Gives (spec.image_at route (want.shown wanted.now)) result }
 {
@@ -149,7 +149,7 @@ pub fn image_asked(
 }
 
 /// The command of a route, in the parts that the target and the fields give.
-fn command(route: CommandRoute, wanted: &Wanted<'_>) -> Result<CommandAsked, AskedFault>
+fn command(route: CommandRoute, wanted: &CheckedHead<'_>) -> Result<CommandAsked, AskedFault>
     ensures { spec.Gives (spec.command_at route (want.shown wanted.now)) result }
 {
     Ok(match route {
@@ -177,11 +177,11 @@ fn command(route: CommandRoute, wanted: &Wanted<'_>) -> Result<CommandAsked, Ask
 pub fn command_asked(
     alloc: Global,
     route: CommandRoute,
-    wanted: &Wanted<'_>,
-) -> Result<KeyedAsked, AskedFault>
+    wanted: &CheckedHead<'_>,
+) -> Result<KeyedCommand, AskedFault>
     ensures { spec.Gives (spec.keyed_at route (want.shown wanted.now)) result }
 {
     let key = key(alloc, wanted)?;
     let asked = command(route, wanted)?;
-    Ok(KeyedAsked { key, asked })
+    Ok(KeyedCommand { key, asked })
 }

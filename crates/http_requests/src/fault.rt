@@ -3,7 +3,7 @@ ghost use Rattle.std.specs.Prelude.{◌≡◌};
 ghost use Rattle.http_requests.specs.Faults as spec;
 
 use crate::Methods;
-use desk_bytes::Refusal;
+use base::Refusal;
 
 /// Why a head is refused before the caller is looked up.
 #[derive(Clone, Copy, Debug, PartialEq, Eq)]

@@ -9,7 +9,7 @@ mod head_spans;
 mod laws;
 mod parsed_head;
 
-pub use begun::Begun;
+pub use begun::HeadRead;
 pub use body_reading::read_body;
 pub use head::{Given, Head};
 pub use head_reading::read_head;

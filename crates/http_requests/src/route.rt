@@ -3,7 +3,7 @@ ghost use Rattle.std.specs.Prelude.{◌≡◌};
 ghost use Rattle.http_requests.specs.Routes as spec;
 
 use crate::target::{from_part, number_part};
-use desk_bytes::LONGEST_IMAGE;
+use base::LONGEST_IMAGE;
 
 /// The most bytes of a body that isn't an image: 4 MiB.
 const LONGEST_BODY: u64 = 4_194_304;

@@ -2,11 +2,11 @@
 ghost use Rattle.std.specs.Prelude.{◌≡◌};
 ghost use Rattle.http_requests.specs.Asked.{Gives};
 ghost use Rattle.http_requests.specs.Tags as spec;
-ghost use Rattle.http_requests.specs.Wanted as want;
+ghost use Rattle.http_requests.specs.CheckedHead as want;
 ghost use Rattle.http_requests.specs.heads.Fields.{occurrence};
 
-use crate::{AskedFault, CommandRoute, Given, ImageRoute, PostRoute, Wanted};
-use desk_bytes::Digest;
+use crate::{AskedFault, CommandRoute, Given, ImageRoute, PostRoute, CheckedHead};
+use base::Digest;
 
 /// Whether If-Match counts at the route.
 fn is_conditional(route: PostRoute) -> bool
@@ -77,7 +77,7 @@ fn tag_given(given: Given<'_>) -> Result<Option<Digest>, AskedFault>
 /// The digest of If-Match at a route that takes this field, if the request has it, or BadField if
 /// the field isn't exactly one entity tag: 64 hexadecimal digits in lower case between double
 /// quotes. At other routes the field has no effect. Takes no memory.
-pub fn tag_asked(route: PostRoute, wanted: &Wanted<'_>) -> Result<Option<Digest>, AskedFault>
+pub fn tag_asked(route: PostRoute, wanted: &CheckedHead<'_>) -> Result<Option<Digest>, AskedFault>
     ensures { Gives (spec.tag_at route (want.shown wanted.now)) result }
 {
     if is_conditional(route) {

@@ -4,7 +4,7 @@ use crate::{Given, Route};
 
 /// The route and the body's length of a checked head, with the values of its fields unchanged.
 #[derive(Clone, Copy, Debug)]
-pub struct Wanted<'b> {
+pub struct CheckedHead<'b> {
     pub route: Route,
     /// The length of the body in bytes, 0 for GET.
     pub size: usize,

@@ -3,10 +3,10 @@ ghost use Rattle.std.specs.Prelude.{◌≡◌, ℕ, List};
 ghost use Rattle.httparse.specs.Grammar.{ReadsRequest, RequestHead};
 ghost use Rattle.http_requests.specs.heads.Fields.{parts_of};
 ghost use Rattle.http_requests.specs.heads.Fields as parts;
-ghost use Rattle.http_requests.specs.Wanted as spec;
+ghost use Rattle.http_requests.specs.CheckedHead as spec;
 
 use crate::fields::checked_fields;
-use crate::{Head, ParsedHead, Route, Routes, Wanted, WantedFault};
+use crate::{Head, ParsedHead, Route, Routes, CheckedHead, WantedFault};
 
 /// The length of the route's body, where this one is announced.
 fn size(route: Route, length: Option<u64>) -> Result<usize, WantedFault>
@@ -22,7 +22,7 @@ fn size(route: Route, length: Option<u64>) -> Result<usize, WantedFault>
 }
 
 /// What the parts of a head ask for.
-fn check_parts<'b>(routes: &Routes, head: &Head<'b>) -> Result<Wanted<'b>, WantedFault>
+fn check_parts<'b>(routes: &Routes, head: &Head<'b>) -> Result<CheckedHead<'b>, WantedFault>
     ensures { spec.Gives (spec.wanted_of (parts.shown head.now)) result }
 {
     let fields = checked_fields(head)?;
@@ -33,7 +33,7 @@ fn check_parts<'b>(routes: &Routes, head: &Head<'b>) -> Result<Wanted<'b>, Wante
         return Err(WantedFault::BadMethod(resource.methods()));
     };
     let size = size(route, fields.length)?;
-    Ok(Wanted {
+    Ok(CheckedHead {
         route,
         size,
         number: route.number_part(head.target.as_bytes()),
@@ -50,7 +50,7 @@ fn check_parts<'b>(routes: &Routes, head: &Head<'b>) -> Result<Wanted<'b>, Wante
 /// of the table, whose minutes and parts of lists have a number of 1 to 7 digits without a leading
 /// zero; the path has the method; POST has a Content-Length and GET has none above 0; the length is within the route's
 /// limit. It doesn't check the caller.
-pub fn check_head<'b>(routes: &Routes, head: &'b ParsedHead) -> Result<Wanted<'b>, WantedFault>
+pub fn check_head<'b>(routes: &Routes, head: &'b ParsedHead) -> Result<CheckedHead<'b>, WantedFault>
     ensures { (h : RequestHead) (rest : List ℕ) → ReadsRequest head.now h rest
         → spec.Gives (spec.wanted_of (parts_of h)) result }
 {

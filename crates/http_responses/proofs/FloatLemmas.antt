@@ -13,13 +13,13 @@ use Rattle.desk_history.specs.declared.impact.Rule.TheVariants as rules
 use Rattle.desk_history.specs.declared.rows.ProposalRow.{ProposalRow}
 use Rattle.desk_history.specs.declared.finding.Verdict.TheVariants.{Allowed, DbxCertificate, DbxDigest, NotListed, Sbat}
 use Rattle.desk_history.specs.declared.shown_person.ShownPerson.{ShownPerson}
-use Rattle.desk_texts.specs.declared.facts.Facts.{Facts}
-use Rattle.desk_texts.specs.declared.proposal.Proposal.{Proposal}
-use Rattle.desk_texts.specs.declared.reply.Counts.{Counts}
-use Rattle.desk_texts.specs.declared.reply.Reply.{Reply}
-use Rattle.desk_texts.specs.declared.reply.Reply.TheVariants.{Added, Submitted, Reviewed, Withdrawn, Returned, Listed, Unlisted, Revoked, Raised, Imported, Proposed, Confirmed, Dropped, Explained}
-use Rattle.desk_texts.specs.declared.shown.ShownRequest.{ShownRequest}
-use Rattle.desk_texts.specs.declared.shown.ShownReturn.{ShownReturn}
+use Rattle.desk_types.specs.declared.facts.Facts.{Facts}
+use Rattle.desk_types.specs.declared.proposal.Proposal.{Proposal}
+use Rattle.desk_types.specs.declared.reply.Counts.{Counts}
+use Rattle.desk_types.specs.declared.reply.Reply.{Reply}
+use Rattle.desk_types.specs.declared.reply.Reply.TheVariants.{Added, Submitted, Reviewed, Withdrawn, Returned, Listed, Unlisted, Revoked, Raised, Imported, Proposed, Confirmed, Dropped, Explained}
+use Rattle.desk_types.specs.declared.shown.ShownRequest.{ShownRequest}
+use Rattle.desk_types.specs.declared.shown.ShownReturn.{ShownReturn}
 use Rattle.http_responses.specs.json.Values.{digest_data, component_data}
 use Rattle.http_responses.specs.json.Changes.{changes_data}
 use Rattle.http_responses.specs.json.Facts.{facts_data}

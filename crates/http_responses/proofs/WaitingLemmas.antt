@@ -2,8 +2,8 @@
 use Rattle.std.proofs.Common.{◌≡◌, ◌∙◌, ℕ, List, ◌++◌, codes, refl, append_assoc}
 use Rattle.serde_json.proofs.OnLiterals.{serde_json_on_literals}
 use Rattle.serde_json.specs.Written.{compact_text}
-use Rattle.desk_texts.specs.declared.proposal.Proposal.{Proposal}
-use Rattle.desk_texts.specs.declared.shown.ShownRequest.{ShownRequest}
+use Rattle.desk_types.specs.declared.proposal.Proposal.{Proposal}
+use Rattle.desk_types.specs.declared.shown.ShownRequest.{ShownRequest}
 use Rattle.http_responses.specs.json.Proposals.{proposals_data}
 use Rattle.http_responses.specs.json.Requests.{requests_data}
 use Rattle.http_responses.specs.json.Waiting.{waiting_data}

@@ -2,9 +2,9 @@
 -- and the status of a refusal.
 use Rattle.std.specs.Prelude.{ℕ, List, Option, Some, None, codes}
 use Rattle.serde_json.specs.Data.{Data, member, no_members, number, object, string, unsigned}
-use Rattle.desk_bytes.specs.Refusals.{name_of, number_of}
-use Rattle.desk_bytes.specs.declared.refusal.Refusal.{Refusal}
-use Rattle.desk_bytes.specs.declared.refusal.Refusal.TheVariants as refusal
+use Rattle.base.specs.Refusals.{name_of, number_of}
+use Rattle.base.specs.declared.refusal.Refusal.{Refusal}
+use Rattle.base.specs.declared.refusal.Refusal.TheVariants as refusal
 use Rattle.http_responses.specs.declared.outage.Outage.{Outage}
 use Rattle.http_responses.specs.declared.outage.Outage.TheVariants as outage
 use Rattle.http_responses.specs.declared.refused.Refused.{Refused}

@@ -5,7 +5,7 @@ ghost use Rattle.http_responses.specs.Refusals as spec;
 ghost use Rattle.http_responses.specs.Responses.{unanswered_text};
 ghost use Rattle.http_responses.specs.declared.outage.Outage.TheVariants.{NoMemory};
 
-use desk_bytes::Refusal;
+use base::Refusal;
 use std::alloc::AllocError;
 
 /// Why the desk can't answer any request: the refusals of status 503.

@@ -3,7 +3,7 @@ ghost use Rattle.std.specs.Prelude.{◌≡◌, IfSome};
 ghost use Rattle.http_responses.specs.Refusals as spec;
 
 use crate::status::Status;
-use desk_bytes::Refusal;
+use base::Refusal;
 use http_requests::Methods;
 
 /// Why a request is refused: a row of the table of refusals, with what its response adds. Rows that

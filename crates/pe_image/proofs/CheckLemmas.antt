@@ -2,7 +2,7 @@
 use Rattle.std.proofs.Common.{◌≡◌, ◌+◌, ◌*◌, ◌^◌, sum_by, ◌≤◌, ◌<◌, ◌&&◌, ◌||◌, ℕ, Bool, true, false, if◌then◌else◌, not, List, [], ◌∷◌, length, nat_le, ◌==◌, Some, None, refl, sym, ap, ◌∙◌, arith}
 use Rattle.std.specs.List.{list_all}
 use Rattle.std.proofs.lemmas.Bool.{leb-true, eqb-true, and_parts}
-use Rattle.desk_bytes.specs.Limits.{longest_image}
+use Rattle.base.specs.Limits.{longest_image}
 use Rattle.pe_image.specs.Checks.{AllHold, IsLaid, first_of, section_checks}
 use Rattle.pe_image.specs.Image.{optional_header_offset, number_of_sections, size_of_optional_header, magic, pe32_plus, fixed_size, size_of_headers, has_certificate_directory, certificate_directory_offset, table_offset, table_size, has_table, sections_begin, sections_end, sum_of_bytes_hashed, raw}
 use Rattle.pe_image.specs.Headers.{raw_of}

@@ -2,7 +2,7 @@
 use Rattle.std.proofs.Common.{◌≡◌, ◌+◌, ◌*◌, ◌-◌, ◌≤◌, ◌<◌, ◌++◌, ℕ, zero, suc, List, [], ◌∷◌, length, take, drop, slice_set, slice_range, refl, sym, ap, ◌∙◌, arith}
 use Rattle.std.specs.Int.{w16, w32, from_le_bytes}
 use Rattle.std.proofs.lemmas.List.{drop-drop, drop-take, take-take, take_more_set}
-use Rattle.desk_bytes.specs.Numbers.{u16_at, u32_at}
+use Rattle.base.specs.Numbers.{u16_at, u32_at}
 use Rattle.pe_image.specs.Headers.{header_at, headers_from}
 use Rattle.pe_image.specs.declared.header.Header.{Header}
 

@@ -2,8 +2,8 @@
 -- section.
 use Rattle.std.specs.Prelude.{◌≡◌, ◌⊎◌, ℕ, ◌+◌, ◌*◌, ◌==◌, ◌&&◌, ◌||◌, Bool, true, not, nat_le, if◌then◌else◌, List, [], ◌∷◌, ◌++◌, length, Option, Some, None}
 use Rattle.std.specs.List.{list_all}
-use Rattle.desk_bytes.specs.Limits.{longest_image}
-use Rattle.desk_bytes.specs.Numbers.{u16_at, u32_at}
+use Rattle.base.specs.Limits.{longest_image}
+use Rattle.base.specs.Numbers.{u16_at, u32_at}
 use Rattle.pe_image.specs.Sources.{HaveRisen}
 use Rattle.pe_image.specs.Image.{mz, dos_header_size, pe, pe32, pe32_plus, pe_signature_offset, optional_header_offset, number_of_sections, size_of_optional_header, magic, fixed_size, size_of_headers, subsystem, has_certificate_directory, table_offset, table_size, has_table, sections_begin, sections_end, raw, headers}
 use Rattle.pe_image.specs.Sbat.{sbat_count, sbat_section, size_of_text}

@@ -1,6 +1,6 @@
 -- The refusal of each fault of an image.
-use Rattle.desk_bytes.specs.declared.refusal.Refusal.{Refusal}
-use Rattle.desk_bytes.specs.declared.refusal.Refusal.TheVariants as refusal
+use Rattle.base.specs.declared.refusal.Refusal.{Refusal}
+use Rattle.base.specs.declared.refusal.Refusal.TheVariants as refusal
 use Rattle.pe_image.specs.declared.fault.LayoutFault.{LayoutFault}
 use Rattle.pe_image.specs.declared.fault.LayoutFault.TheVariants as fault
 

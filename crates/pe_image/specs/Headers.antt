@@ -1,6 +1,6 @@
 -- The section table (PE/COFF, "Section Table"): 40 bytes a section.
 use Rattle.std.specs.Prelude.{ℕ, zero, suc, ◌+◌, Bool, nat_lt, List, [], ◌∷◌, slice_range, filter, map}
-use Rattle.desk_bytes.specs.Numbers.{u32_at}
+use Rattle.base.specs.Numbers.{u32_at}
 use Rattle.pe_image.specs.declared.header.Header.{Header}
 use Rattle.pe_image.specs.Spans.{span}
 use Rattle.pe_image.specs.declared.span.Span.{Span}

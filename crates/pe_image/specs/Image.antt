@@ -1,6 +1,6 @@
 -- The numbers of an image, at their offsets in the file (PE/COFF).
 use Rattle.std.specs.Prelude.{ℕ, ◌+◌, ◌-◌, ◌==◌, ◌&&◌, Bool, nat_lt, if◌then◌else◌, List, length, sum_by}
-use Rattle.desk_bytes.specs.Numbers.{u16_at, u32_at}
+use Rattle.base.specs.Numbers.{u16_at, u32_at}
 use Rattle.pe_image.specs.Headers.{headers_from, raw_of}
 use Rattle.pe_image.specs.Spans.{size_of, reach}
 use Rattle.pe_image.specs.declared.header.Header.{Header}

@@ -1,6 +1,6 @@
 -- The refusals of reading into pieces.
-use Rattle.desk_bytes.specs.declared.refusal.Refusal.{Refusal}
-use Rattle.desk_bytes.specs.declared.refusal.Refusal.TheVariants as refusal
+use Rattle.base.specs.declared.refusal.Refusal.{Refusal}
+use Rattle.base.specs.declared.refusal.Refusal.TheVariants as refusal
 use Rattle.pe_image.specs.declared.pieces.PiecesFault.{PiecesFault}
 use Rattle.pe_image.specs.declared.pieces.PiecesFault.TheVariants as fault
 

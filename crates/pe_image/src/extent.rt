@@ -1,9 +1,9 @@
 //! Lengths of an image's file.
 ghost use Rattle.std.specs.Prelude.{◌≡◌, ◌⊎◌, ◌<◌, ◌≤◌, MatchOption};
 ghost use Rattle.pe_image.specs.Extents.{Lengths};
-ghost use Rattle.desk_bytes.specs.Limits.{longest_image};
+ghost use Rattle.base.specs.Limits.{longest_image};
 
-use desk_bytes::LONGEST_IMAGE;
+use base::LONGEST_IMAGE;
 use std::marker::Model;
 
 /// The length of an image's file in bytes, at most `LONGEST_IMAGE`, and of its gap: the bytes

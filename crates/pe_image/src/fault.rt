@@ -2,7 +2,7 @@
 ghost use Rattle.std.specs.Prelude.{◌≡◌};
 ghost use Rattle.pe_image.specs.Faults.{read_failed, refusal_of};
 
-use desk_bytes::{ReadFailed, Refusal};
+use base::{ReadFailed, Refusal};
 use thiserror::Error;
 
 /// The first condition that an image fails, or a failed read.

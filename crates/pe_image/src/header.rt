@@ -6,7 +6,7 @@ ghost use Rattle.pe_image.specs.Image.{headers, number_of_sections, sections_beg
 
 use crate::field::SECTION_HEADER_SIZE;
 use crate::source::Source;
-use desk_bytes::{ReadFailed, u32_at};
+use base::{ReadFailed, u32_at};
 
 /// The fields of a section header.
 #[derive(Clone, Copy, Debug)]

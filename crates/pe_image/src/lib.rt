@@ -23,7 +23,7 @@ mod span_list;
 mod spans;
 mod start;
 
-pub use desk_bytes::ReadFailed;
+pub use base::ReadFailed;
 pub use extent::Extent;
 pub use fault::LayoutFault;
 pub use laws::{hashes_all_else, no_slice_fails, none_fails_where_laid, sections_are_in_order};

@@ -1,10 +1,10 @@
 //! Little-endian numbers in a source.
 ghost use Rattle.std.specs.Prelude.{◌≡◌, ◌+◌, ◌≤◌, length, slice_range, OnErr, IfOk};
-ghost use Rattle.desk_bytes.specs.Numbers.{u16_at, u32_at};
+ghost use Rattle.base.specs.Numbers.{u16_at, u32_at};
 ghost use Rattle.pe_image.specs.Sources.{HaveRisen, OnlyReads};
 
 use crate::source::Source;
-use desk_bytes::{ReadFailed, u16_at, u32_at};
+use base::{ReadFailed, u16_at, u32_at};
 
 /// The bytes from an offset on, as many as the array has.
 fn read_array<S: Source, const N: usize>(source: &mut S, at: u64) -> Result<[u8; N], ReadFailed>

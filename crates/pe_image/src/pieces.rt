@@ -2,13 +2,13 @@
 ghost use Rattle.std.specs.Prelude.{◌≡◌, ◌≢◌, ◌+◌, ◌*◌, ◌<◌, ◌≤◌, ◌++◌, ℕ, List, All, Err, length, slice_range, IfOk, IsErrOf, OnOk, OnErr};
 ghost use Rattle.std.specs.Io.KnownBytes.{Consumes, IsAtEnd};
 ghost use Rattle.std.specs.List.{flat_map};
-ghost use Rattle.desk_bytes.specs.Watches.{HasFailed};
+ghost use Rattle.base.specs.Watches.{HasFailed};
 ghost use Rattle.pe_image.specs.Pieces.{refusal_of};
 ghost use Rattle.pe_image.specs.Sources.{HaveRisen, OnlyReads};
 ghost use Rattle.pe_image.specs.declared.pieces.TheConstants.{PIECE};
 
 use crate::source::Source;
-use desk_bytes::{InputFault, ReadFailed, Refusal, Watch, read_up_to};
+use base::{InputFault, ReadFailed, Refusal, Watch, read_up_to};
 use std::alloc::Global;
 use std::io::Read;
 use std::marker::Model;

@@ -2,7 +2,7 @@
 ghost use Rattle.std.specs.Prelude.{◌≡◌, ◌+◌, ◌≤◌, ℕ, List, length, slice_range, OnOk, OnErr};
 ghost use Rattle.pe_image.specs.Sources.{HaveRisen, OnlyReads};
 
-use desk_bytes::ReadFailed;
+use base::ReadFailed;
 
 /// Bytes with random access, such as a file's. Offsets count bytes from the beginning. No read
 /// changes the content, and the source counts the reads that fail.

@@ -8,7 +8,7 @@ use crate::fault::LayoutFault;
 use crate::field::{DOS_HEADER_SIZE, OPTIONAL_HEADER, PE_SIGNATURE_OFFSET};
 use crate::number::{read_u16, read_u32};
 use crate::source::Source;
-use desk_bytes::LONGEST_IMAGE;
+use base::LONGEST_IMAGE;
 
 /// `MZ`, little-endian.
 const MZ: u16 = 0x5a4d;

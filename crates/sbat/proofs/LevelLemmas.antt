@@ -4,7 +4,7 @@ use Rattle.std.proofs.Math.Logic.{⊎_elim}
 use Rattle.std.specs.FinMap.{empty, len}
 use Rattle.std.specs.Result.{IsOkAnd}
 use Rattle.std.proofs.lemmas.Bool.Decides.{nat_tests}
-use Rattle.desk_bytes.specs.Lines.{Numbered, named_at, named_in, put_first}
+use Rattle.base.specs.Lines.{Numbered, named_at, named_in, put_first}
 use Rattle.sbat.specs.Levels.{Generations, Stamped, level_row, raised, with_rows}
 use Rattle.sbat.specs.Refusals.{PassesNames, most_names}
 use Rattle.sbat.specs.Rows.{Row}

@@ -14,7 +14,7 @@ use Rattle.std.proofs.lemmas.List.{take_all}
 use Rattle.std.proofs.lemmas.List.Folds.{list_all-append}
 use Rattle.std.proofs.lemmas.List.Sums.{AllPass-from_list_all, position_or_len_is}
 use Rattle.std.proofs.lemmas.Map.Text.{is_eq-slice_cmp}
-use Rattle.desk_bytes.specs.Lines.{lines_of, numbered_from, named_in}
+use Rattle.base.specs.Lines.{lines_of, numbered_from, named_in}
 use Rattle.sbat.specs.Fields.{is_stamp, sbat}
 use Rattle.sbat.specs.Levels.{Generations, IsLevel, Stamped, begun, generations_in, greater, level_in, level_of, level_row, raised, stamp_in, stamp_on, with_rows}
 use Rattle.sbat.specs.Refusals.{IsLevelOf, most_names}

@@ -3,10 +3,10 @@ use Rattle.std.proofs.Common.{◌≡◌, ◌+◌, ◌<◌, ◌≤◌, leb, Bool,
 use Rattle.std.proofs.lemmas.Bool.Decides.{nat_tests}
 use Rattle.std.proofs.lemmas.List.{take_all, take-append-le, append-nil}
 use Rattle.std.specs.Result.{IsOkAnd}
-use Rattle.desk_bytes.specs.Lines.{Numbered, named_at, named_in}
-use Rattle.desk_bytes.proofs.NamedLemmas.{put_before, put_before-more, put_before-nil}
+use Rattle.base.specs.Lines.{Numbered, named_at, named_in}
+use Rattle.base.proofs.NamedLemmas.{put_before, put_before-more, put_before-nil}
 use Rattle.sbat.specs.Rows.{Row, image_row}
-use Rattle.desk_bytes.specs.Limits.{most_components}
+use Rattle.base.specs.Limits.{most_components}
 
 -- all rows so far, of which the first are kept, one more than the limit at most
 pub record Reading (kept : List Row) (lines all : List Numbered) : Type 0 where

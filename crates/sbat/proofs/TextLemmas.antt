@@ -8,8 +8,8 @@ use Rattle.std.proofs.lemmas.Grind.{common_steps}
 use Rattle.std.proofs.lemmas.List.Folds.{list_all-append}
 use Rattle.std.proofs.lemmas.List.Splits.{slice_split_at, slice_split_none}
 use Rattle.std.proofs.lemmas.List.Sums.{AllPass-from_list_all}
-use Rattle.desk_bytes.specs.Lines.{lines_of, numbered_from, named_at, named_in}
-use Rattle.desk_bytes.proofs.LineLemmas.{lines_of-lf}
+use Rattle.base.specs.Lines.{lines_of, numbered_from, named_at, named_in}
+use Rattle.base.proofs.LineLemmas.{lines_of-lf}
 use Rattle.sbat.specs.Fields.{fields_of, is_comma, is_generation, is_name, is_name_byte, sbat}
 use Rattle.sbat.specs.Levels.{level_row}
 use Rattle.sbat.specs.Rows.{Row}

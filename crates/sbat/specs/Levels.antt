@@ -6,7 +6,7 @@ use Rattle.std.specs.Cmp.Lexicographic.{slice_cmp}
 use Rattle.std.specs.Coded.{Coded, code_by, coded×, coded_ℕ, coded_list}
 use Rattle.std.specs.FinMap.{FinMap, code, empty, from_entries, get, insert}
 use Rattle.std.specs.Str.{bytes_eq}
-use Rattle.desk_bytes.specs.Lines.{Numbered, named_in}
+use Rattle.base.specs.Lines.{Numbered, named_in}
 use Rattle.sbat.specs.Fields.{fields_of, generation_of, is_generation, is_name, is_stamp, sbat, stamp_of}
 use Rattle.sbat.specs.Rows.{Row, row_in}
 use Rattle.sbat.specs.Texts.{rows_of}

@@ -1,9 +1,9 @@
 -- Reasons why SBAT text is refused.
 use Rattle.std.specs.Prelude.{◌≡◌, ℕ, ◌<◌, ◌≤◌, ⊤, length, List, Option, Some, None, Result, Ok, Err, IsOkAnd}
 use Rattle.std.specs.FinMap.{len}
-use Rattle.desk_bytes.specs.Limits.{most_components}
-use Rattle.desk_bytes.specs.declared.refusal.Refusal.{Refusal}
-use Rattle.desk_bytes.specs.declared.refusal.Refusal.TheVariants as refusal
+use Rattle.base.specs.Limits.{most_components}
+use Rattle.base.specs.declared.refusal.Refusal.{Refusal}
+use Rattle.base.specs.declared.refusal.Refusal.TheVariants as refusal
 use Rattle.sbat.specs.Levels.{Stamped, level_of}
 use Rattle.sbat.specs.Rows.{Row, components_of}
 use Rattle.sbat.specs.declared.fault.SbatFault.{SbatFault}

@@ -1,6 +1,6 @@
 -- The rows of SBAT text (shim's SBAT.md): a name and a generation each.
 use Rattle.std.specs.Prelude.{ℕ, nat_lt, length, List, ◌∷◌, Option, Some, None, Result, if◌then◌else◌}
-use Rattle.desk_bytes.specs.Lines.{named_in}
+use Rattle.base.specs.Lines.{named_in}
 use Rattle.sbat.specs.Fields.{fields_of, generation_of, is_name}
 use Rattle.sbat.specs.Texts.{rows_of}
 use Rattle.sbat.specs.declared.component.Component.{Component}

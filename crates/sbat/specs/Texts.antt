@@ -2,7 +2,7 @@
 use Rattle.std.specs.Prelude.{ℕ, ◌==◌, if◌then◌else◌, List, [], ◌∷◌, take, drop}
 use Rattle.std.specs.List.{before_first}
 use Rattle.std.specs.Str.{bytes_eq}
-use Rattle.desk_bytes.specs.Lines.{Numbered, parted}
+use Rattle.base.specs.Lines.{Numbered, parted}
 
 -- own: the bytes before the first zero byte, or all if there is none
 abbrev pub before_zero : List ℕ → List ℕ

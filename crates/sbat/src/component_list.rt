@@ -1,9 +1,9 @@
 //! The components that an image names.
 ghost use Rattle.std.specs.Prelude.{◌≡◌, ◌<◌, ◌≤◌, List, length, MatchOption};
-ghost use Rattle.desk_bytes.specs.Limits.{most_components};
+ghost use Rattle.base.specs.Limits.{most_components};
 
 use crate::component::Component;
-use desk_bytes::MOST_COMPONENTS;
+use base::MOST_COMPONENTS;
 use std::alloc::AllocError;
 use std::marker::Model;
 
@@ -16,7 +16,7 @@ pub struct Components {
 
 impl Model for Components {
     ghost use Rattle.std.specs.Prelude.{◌≤◌, List, length};
-    ghost use Rattle.desk_bytes.specs.Limits.{most_components};
+    ghost use Rattle.base.specs.Limits.{most_components};
     ghost use Rattle.sbat.specs.declared.component.Component.{Component};
 
     ghost Value = { List Component };

@@ -2,7 +2,7 @@
 ghost use Rattle.std.specs.Prelude.{◌≡◌};
 ghost use Rattle.sbat.specs.Refusals.{place_of, refusal_of};
 
-use desk_bytes::Refusal;
+use base::Refusal;
 use thiserror::Error;
 
 /// Why SBAT text is refused.

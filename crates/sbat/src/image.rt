@@ -1,6 +1,6 @@
 //! The components of an image.
 ghost use Rattle.std.specs.Prelude.{◌≡◌, ◌∷◌, ◌++◌, [], IfErr, IfOk, OnOk, if◌then◌else◌, length, nat_le};
-ghost use Rattle.desk_bytes.specs.Limits.{most_components};
+ghost use Rattle.base.specs.Limits.{most_components};
 ghost use Rattle.sbat.specs.Refusals.{IsComponents, RefusesComponents};
 
 use crate::component::Component;
@@ -9,7 +9,7 @@ use crate::fault::SbatFault;
 use crate::name::NameFault;
 use crate::row::read_image_row;
 use crate::text::rows;
-use desk_bytes::MOST_COMPONENTS;
+use base::MOST_COMPONENTS;
 use std::alloc::{AllocError, Global};
 
 /// Adds a component unless there are more than the limit already.

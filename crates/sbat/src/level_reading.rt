@@ -5,7 +5,7 @@ ghost use Rattle.std.specs.Str.{bytes_eq};
 ghost use Rattle.sbat.specs.Fields.{sbat};
 ghost use Rattle.sbat.specs.Levels.{level_row, raised, stamp_on, with_rows};
 ghost use Rattle.sbat.specs.Refusals.{IsLevelOf, IsRead, IsRefused, PassesNames, RefusesLevel, most_names};
-ghost use Rattle.desk_bytes.specs.Lines.{named_in};
+ghost use Rattle.base.specs.Lines.{named_in};
 
 use crate::component::Component;
 use crate::fault::SbatFault;
@@ -16,7 +16,7 @@ use crate::name::NameFault;
 use crate::row::read_level_row;
 use crate::stamp::Stamp;
 use crate::text::rows;
-use desk_bytes::Parted;
+use base::Parted;
 use std::alloc::{AllocError, Global};
 
 /// The most names of a level.

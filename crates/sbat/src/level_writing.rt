@@ -1,14 +1,14 @@
 //! The writing of levels.
 ghost use Rattle.std.specs.Prelude.{OnErr, OnOk};
 ghost use Rattle.std.specs.Io.KnownBytes.{Appends};
-ghost use Rattle.desk_bytes.specs.Output.{AppendsBeginning};
+ghost use Rattle.base.specs.Output.{AppendsBeginning};
 ghost use Rattle.sbat.specs.Writing.{head_text, level_text, row_text};
 
 use crate::generation::Generation;
 use crate::level::Level;
 use crate::name::ComponentName;
 use crate::stamp::Stamp;
-use desk_bytes::{WriteFailed, put_each};
+use base::{WriteFailed, put_each};
 use itoa::Buffer;
 use std::io::Write;
 

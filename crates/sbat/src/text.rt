@@ -2,7 +2,7 @@
 ghost use Rattle.std.specs.Prelude.{◌≡◌, ◌==◌, position};
 ghost use Rattle.sbat.specs.Texts as spec;
 
-use desk_bytes::{Parted, parted};
+use base::{Parted, parted};
 
 /// The byte order mark that UTF-8 text may begin with.
 const MARK: [u8; 3] = [0xef, 0xbb, 0xbf];
@@ -34,7 +34,7 @@ fn without_mark(text: &[u8]) -> &[u8]
     }
 }
 
-/// The lines of SBAT text with their numbers from 1, as `desk_bytes::parted` gives them: empty
+/// The lines of SBAT text with their numbers from 1, as `base::parted` gives them: empty
 /// lines are counted but not returned. The text ends before its first zero byte, and a byte order
 /// mark EF BB BF at its beginning is dropped.
 pub fn rows(text: &[u8]) -> Parted<'_>

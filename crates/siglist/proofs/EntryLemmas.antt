@@ -2,7 +2,7 @@
 use Rattle.std.proofs.Common.{◌≡◌, ℕ, zero, suc, ◌+◌, ◌-◌, ◌*◌, ◌≤◌, List, [], ◌∷◌, ◌++◌, length, take, drop, refl, sym, ap, ap₂, ◌∙◌, append_assoc, arith}
 use Rattle.std.specs.List.{flat_map, AllByRecursion}
 use Rattle.std.proofs.lemmas.List.{take_at, drop_at, length-take-le, length-drop, length-append}
-use Rattle.desk_bytes.proofs.OutputLemmas.{take-more}
+use Rattle.base.proofs.OutputLemmas.{take-more}
 use Rattle.siglist.specs.SignatureLists.{Entry, IsEntryOf, entry_bytes}
 use Rattle.siglist.specs.Steps.Reading.{entries_of}
 

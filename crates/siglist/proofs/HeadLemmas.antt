@@ -9,7 +9,7 @@ use Rattle.siglist.specs.Kinds.{kind_of, is_bare, suits}
 use Rattle.siglist.specs.declared.kind.Kind.{Kind}
 use Rattle.siglist.specs.declared.kind.Kind.TheVariants as kind
 use Rattle.siglist.specs.SignatureLists.{Entry, SignatureList, IsList, KeepsKind, entry_bytes, list_bytes, list_size}
-use Rattle.desk_bytes.specs.Numbers.{u32_at}
+use Rattle.base.specs.Numbers.{u32_at}
 use Rattle.siglist.specs.Heads.{size_at, header_size_at, entry_size_at}
 use Rattle.siglist.specs.Steps.Reading.{entries_size_at, entries_of, front_of, list_with}
 use Rattle.siglist.proofs.ChainLemmas.{HasHead, WhichKind, which_kind}

@@ -1,13 +1,13 @@
 -- The digests of a text, line by line.
 use Rattle.std.proofs.Common.{◌≡◌, ℕ, ◌+◌, ◌*◌, ◌≤◌, eqb, cond, true, false, ◌&&◌, List, [], ◌∷◌, length, Option, Some, None, Result, Ok, Err, IfSome, refl, sym, ap, subst, arith}
 use Rattle.std.specs.List.{onto_first}
-use Rattle.desk_bytes.specs.Lines.{lines_of, numbered_from, begins_with, named_at, parted}
-use Rattle.desk_bytes.specs.Digests.{IsArranged, digest_of}
-use Rattle.desk_bytes.proofs.DigestLemmas.{digest_size}
+use Rattle.base.specs.Lines.{lines_of, numbered_from, begins_with, named_at, parted}
+use Rattle.base.specs.Digests.{IsArranged, digest_of}
+use Rattle.base.proofs.DigestLemmas.{digest_size}
 use Rattle.std.specs.Io.KnownBytes.{Appends}
-use Rattle.desk_bytes.specs.Output.{AppendsBeginning}
+use Rattle.base.specs.Output.{AppendsBeginning}
 use Rattle.siglist.specs.Packing.{IsPacked, IsPartlyPacked, Packs, digests_in, packed, longest_text}
-use Rattle.desk_bytes.proofs.OrderLemmas.{IsArranged-one}
+use Rattle.base.proofs.OrderLemmas.{IsArranged-one}
 
 -- the number of bytes of the lines
 abbrev total : List (List ℕ) → ℕ

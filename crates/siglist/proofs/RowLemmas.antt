@@ -3,7 +3,7 @@ use Rattle.std.proofs.lemmas.Bool.Decides.{nat_tests}
 use Rattle.std.proofs.Common.{◌≡◌, ℕ, zero, suc, eqb, true, ◌+◌, ◌-◌, ◌<◌, ◌≤◌, List, [], ◌∷◌, ◌++◌, length, take, drop, Some, None, refl, sym, ap, ap₂, ◌∙◌, subst, append_assoc, append-nil, inl, inr, arith}
 use Rattle.std.proofs.lemmas.Bool.{cases_order}
 use Rattle.std.proofs.lemmas.List.{take_at, take_all, length-drop, length-append, length-take-le, take-append-drop}
-use Rattle.desk_bytes.proofs.OutputLemmas.{take-more}
+use Rattle.base.proofs.OutputLemmas.{take-more}
 use Rattle.siglist.specs.SignatureLists.{SignatureList, IsList, IsRow, Spells, list_bytes, list_size, placed_from}
 use Rattle.siglist.specs.Heads.{size_at}
 use Rattle.siglist.specs.Steps.Reading.{lack_at, front_of, placed, row_of}

@@ -8,7 +8,7 @@ use Rattle.std.proofs.lemmas.Nat.{div-add-mod', le_bytes_4}
 use Rattle.std.proofs.lemmas.List.{drop-drop, length-take, length-take-le, length-drop, take-append-drop, get_or-take, get_or-drop, get_or_past}
 use Rattle.siglist.specs.Kinds.{kind_of, is_bare, suits, sha256_kind, x509_kind, x509_sha256_kind}
 use Rattle.siglist.specs.SignatureLists.{Entry, SignatureList, IsList, KeepsKind, entry_bytes, list_bytes, list_size}
-use Rattle.desk_bytes.specs.Numbers.{u32_at}
+use Rattle.base.specs.Numbers.{u32_at}
 use Rattle.siglist.specs.Heads.{size_at, header_size_at, entry_size_at}
 use Rattle.siglist.specs.Steps.Reading.{entries_size_at, entries_of, front_of, list_with}
 use Rattle.siglist.proofs.ChainLemmas.{HasHead}

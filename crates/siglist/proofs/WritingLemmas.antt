@@ -5,8 +5,8 @@ use Rattle.std.proofs.lemmas.List.Concat.{flat_map-append}
 use Rattle.std.specs.List.{flat_map, AllByRecursion}
 use Rattle.std.specs.Io.KnownBytes.{Appends}
 use Rattle.std.proofs.KnownBytes.{Appends-trans}
-use Rattle.desk_bytes.specs.Output.{AppendsBeginning}
-use Rattle.desk_bytes.proofs.OutputLemmas.{OnErr-after}
+use Rattle.base.specs.Output.{AppendsBeginning}
+use Rattle.base.proofs.OutputLemmas.{OnErr-after}
 use Rattle.siglist.specs.Kinds.{sha256_kind, sha256_size, x509_kind, x509_sha256_kind, x509_sha256_size}
 use Rattle.siglist.specs.SignatureLists.{Entry, IsEntryOf, KeepsKind, Spells, entry_bytes, spelling}
 use Rattle.siglist.specs.Writing.{bare_head, bare_row, digest_entry, digest_row, entry_of, no_time, one_row, sha256_parts, sha256_row, x509_row, x509_sha256_parts, x509_sha256_row}

@@ -1,7 +1,7 @@
 -- The numbers in the head of a list (UEFI 2.10, section 32.4.1, EFI_SIGNATURE_LIST), which has 28
 -- bytes.
 use Rattle.std.specs.Prelude.{ℕ, List}
-use Rattle.desk_bytes.specs.Numbers.{u32_at}
+use Rattle.base.specs.Numbers.{u32_at}
 
 -- SignatureListSize
 abbrev pub size_at : List ℕ → ℕ

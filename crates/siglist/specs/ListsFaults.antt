@@ -1,8 +1,8 @@
 -- Faults of bytes that aren't a row of signature lists: the place and the cause (UEFI 2.10, section
 -- 32.4.1).
 use Rattle.std.specs.Prelude.{◌≡◌, ◌+◌, ◌<◌, ◌⊎◌, ℕ, true, List, ◌++◌, length, take, drop}
-use Rattle.desk_bytes.specs.declared.refusal.Refusal.{Refusal}
-use Rattle.desk_bytes.specs.declared.refusal.Refusal.TheVariants as refusal
+use Rattle.base.specs.declared.refusal.Refusal.{Refusal}
+use Rattle.base.specs.declared.refusal.Refusal.TheVariants as refusal
 use Rattle.siglist.specs.Kinds.{kind_of, is_bare}
 use Rattle.siglist.specs.SignatureLists.{SignatureList, IsList, Spells, list_bytes}
 use Rattle.siglist.specs.Heads.{size_at, header_size_at}

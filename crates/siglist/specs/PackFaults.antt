@@ -1,9 +1,9 @@
 -- Reasons why a pack stops, and their refusals.
 use Rattle.std.specs.Prelude.{ℕ, Option, Some, None}
-use Rattle.desk_bytes.specs.declared.refusal.Refusal.{Refusal}
-use Rattle.desk_bytes.specs.declared.refusal.Refusal.TheVariants as refusal
-use Rattle.desk_bytes.specs.declared.input.InputFault.{InputFault}
-use Rattle.desk_bytes.specs.declared.input.InputFault.TheVariants as input
+use Rattle.base.specs.declared.refusal.Refusal.{Refusal}
+use Rattle.base.specs.declared.refusal.Refusal.TheVariants as refusal
+use Rattle.base.specs.declared.input.InputFault.{InputFault}
+use Rattle.base.specs.declared.input.InputFault.TheVariants as input
 use Rattle.siglist.specs.declared.fault.PackFault.{PackFault}
 use Rattle.siglist.specs.declared.fault.PackFault.TheVariants as fault
 

@@ -1,9 +1,9 @@
 -- Lines of digests packed into one signature list.
 use Rattle.std.specs.Prelude.{◌≡◌, ℕ, ◌<◌, ◌≤◌, List, length, Option, Result, Ok, Err}
 use Rattle.std.specs.Io.KnownBytes.{Appends}
-use Rattle.desk_bytes.specs.Digests.{digest_of, IsArranged}
-use Rattle.desk_bytes.specs.Lines.{Numbered, named_in, parted}
-use Rattle.desk_bytes.specs.Output.{AppendsBeginning}
+use Rattle.base.specs.Digests.{digest_of, IsArranged}
+use Rattle.base.specs.Lines.{Numbered, named_in, parted}
+use Rattle.base.specs.Output.{AppendsBeginning}
 use Rattle.siglist.specs.SignatureLists.{spelling}
 use Rattle.siglist.specs.Writing.{sha256_row}
 

@@ -5,7 +5,7 @@ ghost use Rattle.siglist.specs.SignatureLists as spec;
 ghost use Rattle.siglist.specs.Steps.Reading.{entries_of};
 ghost use Rattle.siglist.specs.EntryViews.{seen_entry};
 
-use desk_bytes::Guid;
+use base::Guid;
 use std::marker::Model;
 
 /// An entry: its owner, and its body, a slice of the bytes that were read.

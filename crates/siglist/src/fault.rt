@@ -3,7 +3,7 @@ ghost use Rattle.std.specs.Prelude.{◌≡◌};
 ghost use Rattle.siglist.specs.ListsFaults as lists;
 ghost use Rattle.siglist.specs.PackFaults.{fault_of, place_of, refusal_of, write_failed};
 
-use desk_bytes::{InputFault, Refusal, WriteFailed};
+use base::{InputFault, Refusal, WriteFailed};
 use thiserror::Error;
 
 /// Why a text wasn't packed.

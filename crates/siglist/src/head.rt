@@ -6,7 +6,7 @@ ghost use Rattle.siglist.specs.Steps.Reading.{lack_at};
 use crate::entry::first_guid;
 use crate::fault::Lack;
 use crate::kind::kind_of;
-use desk_bytes::u32_at;
+use base::u32_at;
 
 /// The length of the list at the front, or why there is none.
 #[tactic(auto, unfolding(crate::specs::Steps::Reading::lack_at))]

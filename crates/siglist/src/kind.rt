@@ -2,7 +2,7 @@
 ghost use Rattle.std.specs.Prelude.{◌≡◌};
 ghost use Rattle.siglist.specs.Kinds as spec;
 
-use desk_bytes::Guid;
+use base::Guid;
 
 /// EFI_CERT_SHA256_GUID, c1c41626-504c-4092-aca9-41f936934328, as it is stored.
 pub(crate) const SHA256: [u8; 16] = [

@@ -7,7 +7,7 @@ ghost use Rattle.siglist.specs.Steps.Reading.{entries_of, front_of, lack_at, lis
 
 use crate::entry::{Entries, first_guid};
 use crate::kind::{Kind, kind_of};
-use desk_bytes::{Guid, u32_at};
+use base::{Guid, u32_at};
 use std::marker::Model;
 
 /// A signature list (UEFI 2.10, section 32.4.1, EFI_SIGNATURE_LIST), borrowed from the bytes that

@@ -1,12 +1,12 @@
 //! Lines of digests packed into one list.
 ghost use Rattle.std.specs.Prelude.{◌≡◌, ◌≤◌, ℕ, length, Ok, Err, IfErr, IfOk, IfSome, IsErrOf};
 ghost use Rattle.std.specs.Io.KnownBytes.{Keeps};
-ghost use Rattle.desk_bytes.specs.Lines.{parted};
+ghost use Rattle.base.specs.Lines.{parted};
 ghost use Rattle.siglist.specs.Packing.{HasWrongLine, IsPacked, IsPartlyPacked, IsTooLong, digests_in, longest_text};
 
 use crate::fault::PackFault;
 use crate::writing::write_sha256;
-use desk_bytes::{Digest, Guid, arrange, parted, read_all};
+use base::{Digest, Guid, arrange, parted, read_all};
 use std::alloc::Global;
 use std::io::{Read, Write};
 

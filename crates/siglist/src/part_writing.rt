@@ -2,12 +2,12 @@
 //! prefix of the part, which may be empty.
 ghost use Rattle.std.specs.Prelude.{◌≤◌, OnErr, OnOk};
 ghost use Rattle.std.specs.Io.KnownBytes.{Appends};
-ghost use Rattle.desk_bytes.specs.Output.{AppendsBeginning};
+ghost use Rattle.base.specs.Output.{AppendsBeginning};
 ghost use Rattle.siglist.specs.Writing.{most_digests, sha256_entry_bytes, sha256_head_bytes, x509_sha256_entry_bytes, x509_sha256_head_bytes};
 
 use crate::kind::{SHA256, SHA256_SIZE, X509_SHA256, X509_SHA256_SIZE};
 use crate::writing::{put_entry, put_head};
-use desk_bytes::{Digest, Guid, WriteFailed, put};
+use base::{Digest, Guid, WriteFailed, put};
 use std::io::Write;
 
 /// Writes the 28 bytes at the head of a SHA256 list of `count` digests, whose entries must follow

@@ -2,12 +2,12 @@
 ghost use Rattle.std.specs.Prelude.{◌+◌, ◌*◌, ◌<◌, ◌≤◌, ◌^◌, length, OnOk, OnErr};
 ghost use Rattle.std.specs.Int.{w32, to_le_bytes};
 ghost use Rattle.std.specs.Io.KnownBytes.{Appends};
-ghost use Rattle.desk_bytes.specs.Output.{AppendsBeginning};
+ghost use Rattle.base.specs.Output.{AppendsBeginning};
 ghost use Rattle.siglist.specs.SignatureLists.{entry_bytes, spelling};
 ghost use Rattle.siglist.specs.Writing.{bare_head, digest_row, entry_of, most_digests, one_row, sha256_row, x509_row, x509_sha256_row};
 
 use crate::kind::{SHA256, SHA256_SIZE, X509, X509_SHA256};
-use desk_bytes::{Digest, Guid, WriteFailed, put};
+use base::{Digest, Guid, WriteFailed, put};
 use std::io::Write;
 
 /// Writes a number, little-endian.

@@ -1,7 +1,7 @@
 -- The counts of a desk, of its tables and of its history.
 use Rattle.std.specs.Prelude.{◌≡◌, count_by, length}
-use Rattle.desk_texts.specs.declared.kind.ListedKind.TheVariants as kinds
-use Rattle.desk_texts.specs.declared.state.State.TheVariants as states
+use Rattle.desk_types.specs.declared.kind.ListedKind.TheVariants as kinds
+use Rattle.desk_types.specs.declared.state.State.TheVariants as states
 use Rattle.desk_history.specs.Calls.{History, distinct, is_same_kind}
 use Rattle.desk_history.specs.Level.{generations, names, stamp}
 use Rattle.desk_history.specs.People.{people}

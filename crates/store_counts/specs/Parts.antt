@@ -1,6 +1,6 @@
 -- Groups of a desk's counts.
 use Rattle.std.specs.Prelude.{◌≡◌, count_by}
-use Rattle.desk_texts.specs.declared.state.State.TheVariants as states
+use Rattle.desk_types.specs.declared.state.State.TheVariants as states
 use Rattle.desk_history.specs.Requests.{is_state}
 use Rattle.desk_history.specs.Tables.{Tables}
 use Rattle.store_counts.specs.declared.counting.Ended.{Ended}

@@ -6,7 +6,7 @@ ghost use Rattle.store_reads.specs.Reads.{ReadsTables};
 ghost use Rattle.store_sql.specs.States.{DoesInside, CommitsNothing, Spares, StaysInside};
 
 use crate::numbers::{Counts, KindCounts, ListCounts, RequestCounts};
-use desk_texts::{ListedKind, State};
+use desk_types::{ListedKind, State};
 use sqlite::{Alter, Transaction};
 use store_reads::{Counted, ReadFault, count, own_row};
 

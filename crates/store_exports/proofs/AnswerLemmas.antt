@@ -8,8 +8,8 @@ use Rattle.sqlite.specs.Order.{Row}
 use Rattle.sqlite.specs.State.{State, HasCleanDisk}
 use Rattle.sqlite.specs.Table.{Table}
 use Rattle.sqlite.specs.Term.{Term}
-use Rattle.desk_bytes.specs.Output.{AppendsBeginning}
-use Rattle.desk_bytes.proofs.OutputLemmas.{AppendsBeginning-after, AppendsBeginning-before, AppendsBeginning-none}
+use Rattle.base.specs.Output.{AppendsBeginning}
+use Rattle.base.proofs.OutputLemmas.{AppendsBeginning-after, AppendsBeginning-before, AppendsBeginning-none}
 use Rattle.desk_history.specs.Calls.{History}
 use Rattle.desk_history.specs.Tables.{Tables, tables}
 use Rattle.store_schema.specs.rows.Contents.{contents}

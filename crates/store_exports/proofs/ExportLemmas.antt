@@ -6,7 +6,7 @@ use Rattle.sqlite.specs.State.{State, HasCleanDisk}
 use Rattle.desk_history.specs.Calls.{History, distinct}
 use Rattle.desk_history.specs.Tables.{Tables}
 use Rattle.desk_history.specs.Revocations.{revocations}
-use Rattle.desk_texts.specs.declared.kind.ListedKind.TheVariants as kinds
+use Rattle.desk_types.specs.declared.kind.ListedKind.TheVariants as kinds
 use Rattle.siglist.specs.Writing.{sha256_entry_bytes, x509_sha256_entry_bytes}
 use Rattle.store_schema.specs.rows.Histories.{ShowsHistory}
 use Rattle.store_schema.specs.rows.Values.{digest_values}

@@ -12,8 +12,8 @@ use mathlib.Core.List.{reverse-cons}
 use Rattle.std.proofs.lemmas.List.Concat.{flat_map-append}
 use Rattle.std.proofs.lemmas.List.Sorted.{IsPermutation-reverse}
 use Rattle.sbat.specs.declared.component.Component.{Component}
-use Rattle.desk_texts.specs.declared.kind.ListedKind.{ListedKind}
-use Rattle.desk_texts.specs.declared.kind.ListedKind.TheVariants as kinds
+use Rattle.desk_types.specs.declared.kind.ListedKind.{ListedKind}
+use Rattle.desk_types.specs.declared.kind.ListedKind.TheVariants as kinds
 use Rattle.desk_history.specs.declared.rows.Entry.{Entry}
 use Rattle.desk_history.specs.declared.rows.Minute.{Minute}
 use Rattle.desk_history.specs.Calls.{History, are_apart, is_same_kind}

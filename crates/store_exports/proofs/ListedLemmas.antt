@@ -8,9 +8,9 @@ use Rattle.sbat.specs.declared.component.Component.{Component}
 use Rattle.sbat.specs.Writing.{row_text}
 use Rattle.siglist.specs.SignatureLists.{spelling}
 use Rattle.siglist.specs.Writing.{sha256_entry_bytes, x509_row}
-use Rattle.desk_texts.specs.Words.{kind_text}
-use Rattle.desk_texts.specs.declared.kind.ListedKind.{ListedKind}
-use Rattle.desk_texts.specs.declared.kind.ListedKind.TheVariants as kinds
+use Rattle.desk_types.specs.Words.{kind_text}
+use Rattle.desk_types.specs.declared.kind.ListedKind.{ListedKind}
+use Rattle.desk_types.specs.declared.kind.ListedKind.TheVariants as kinds
 use Rattle.desk_history.specs.declared.rows.Entry.{Entry}
 use Rattle.desk_history.specs.Calls.{History, is_same_kind}
 use Rattle.desk_history.specs.Level.{generations}

@@ -10,7 +10,7 @@ use Rattle.sqlite.specs.declared.types.Value.TheVariants.{Int, Text, Blob}
 use Rattle.sqlite_value.specs.Order.{value_cmp}
 use Rattle.sqlite_value.proofs.OrderLemmas.{value_cmp-Blob, value_cmp-Int, value_cmp-Text}
 use Rattle.sbat.specs.declared.component.Component.{Component}
-use Rattle.desk_texts.specs.Words.{kind_text}
+use Rattle.desk_types.specs.Words.{kind_text}
 use Rattle.desk_history.specs.declared.rows.Entry.{Entry}
 use Rattle.store_schema.specs.rows.Values.{component_values, digest_values, entry_values}
 use Rattle.desk_exports.specs.Orders.{ascending_by, in_place, is_before}

@@ -11,7 +11,7 @@ use Rattle.std.proofs.lemmas.List.{length-map}
 use Rattle.std.proofs.lemmas.List.Sorted.{searchable_from_sorted}
 use Rattle.std.proofs.lemmas.Map.Keys.{Less-from_sorted}
 use Rattle.std.proofs.lemmas.Map.Text.{is_eq-slice_cmp}
-use Rattle.desk_texts.specs.Certificates.{WholeCertificate}
+use Rattle.desk_types.specs.Certificates.{WholeCertificate}
 use Rattle.desk_history.proofs.ListLemmas.{same_text}
 use Rattle.store_exports.specs.Gathering.{Bodies, with_body, with_certificate}
 

@@ -6,8 +6,8 @@ use Rattle.std.proofs.KnownBytes.{Appends-nil, Appends-trans}
 use Rattle.sqlite.specs.Held.{Held, state}
 use Rattle.sqlite.specs.State.{State, HasCleanDisk}
 use Rattle.sqlite.specs.Store as store
-use Rattle.desk_bytes.specs.Output.{AppendsBeginning}
-use Rattle.desk_bytes.proofs.OutputLemmas.{AppendsBeginning-after, AppendsBeginning-before, AppendsBeginning-none}
+use Rattle.base.specs.Output.{AppendsBeginning}
+use Rattle.base.proofs.OutputLemmas.{AppendsBeginning-after, AppendsBeginning-before, AppendsBeginning-none}
 use Rattle.desk_history.specs.Calls.{History}
 use Rattle.store_schema.specs.rows.Histories.{ShowsHistory}
 use Rattle.store_exports.specs.Exporting.{BeginsOf, BeginsWhere, Exports, ExportsWhere, SparesOf, StaysOf, WritesOf, WritesWhere}

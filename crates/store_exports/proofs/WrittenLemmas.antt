@@ -6,7 +6,7 @@ use Rattle.std.proofs.lemmas.List.Concat.{flat_map-append}
 use Rattle.siglist.specs.SignatureLists.{spelling}
 use Rattle.siglist.specs.Writing.{x509_row, x509_sha256_parts, x509_sha256_row}
 use Rattle.siglist.proofs.WritingLemmas.{x509_sha256_row-parts}
-use Rattle.desk_texts.specs.Certificates.{WholeCertificate}
+use Rattle.desk_types.specs.Certificates.{WholeCertificate}
 use Rattle.desk_history.specs.Calls.{History}
 use Rattle.desk_history.proofs.ListLemmas.{split_at}
 use Rattle.desk_exports.specs.Bodies.{bodies_of, is_bodiless}

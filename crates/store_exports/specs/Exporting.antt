@@ -4,7 +4,7 @@ use Rattle.std.specs.Io.KnownBytes.{Appends}
 use Rattle.sqlite.specs.Held.{Held, state}
 use Rattle.sqlite.specs.State.{State, HasCleanDisk}
 use Rattle.sqlite.specs.Store.{Ghosts}
-use Rattle.desk_bytes.specs.Output.{AppendsBeginning}
+use Rattle.base.specs.Output.{AppendsBeginning}
 use Rattle.sbat.specs.Writing.{level_lines}
 use Rattle.desk_exports.specs.Exports.{db, dbx, level_components, minutes_text, shim}
 use Rattle.desk_exports.specs.declared.export.Export.{Export}

@@ -1,7 +1,7 @@
 -- The refusals that an export may give.
 use Rattle.std.specs.Prelude.{◌≡◌, ◌⊎◌}
-use Rattle.desk_bytes.specs.declared.refusal.Refusal.{Refusal}
-use Rattle.desk_bytes.specs.declared.refusal.Refusal.TheVariants as refusals
+use Rattle.base.specs.declared.refusal.Refusal.{Refusal}
+use Rattle.base.specs.declared.refusal.Refusal.TheVariants as refusals
 use Rattle.store_reads.specs.Failures.{IsFailure}
 use Rattle.store_reads.specs.Faults.{refusal_of}
 use Rattle.store_exports.specs.declared.fault.ExportFault.{ExportFault}

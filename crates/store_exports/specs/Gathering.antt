@@ -7,11 +7,11 @@ use Rattle.sqlite.specs.State.{HasCleanDisk}
 use Rattle.sqlite.specs.Store.{Ghosts}
 use Rattle.siglist.specs.SignatureLists.{spelling}
 use Rattle.siglist.specs.Writing.{x509_row, x509_sha256_row}
-use Rattle.desk_texts.specs.Certificates.{WholeCertificate}
-use Rattle.desk_texts.specs.Commands.{IsCommand}
-use Rattle.desk_texts.specs.CommandTexts.{text_of}
-use Rattle.desk_texts.specs.Formed.{IsWithin}
-use Rattle.desk_texts.specs.declared.command.Command.{Command}
+use Rattle.desk_types.specs.Certificates.{WholeCertificate}
+use Rattle.desk_types.specs.Commands.{IsCommand}
+use Rattle.desk_types.specs.CommandTexts.{text_of}
+use Rattle.desk_types.specs.Formed.{IsWithin}
+use Rattle.desk_types.specs.declared.command.Command.{Command}
 use Rattle.desk_history.specs.Calls.{History, is_among}
 use Rattle.desk_history.specs.Formed.{IsItem}
 use Rattle.store_schema.specs.rows.Histories.{ShowsHistory}

@@ -2,8 +2,8 @@
 use Rattle.std.specs.Prelude.{ℕ, pos, List, [], ◌∷◌, ◌++◌, codes, decimal}
 use Rattle.sqlite.specs.Order.{Row}
 use Rattle.sqlite.specs.declared.types.Value.TheVariants.{Int, Text}
-use Rattle.desk_texts.specs.Callers.{caller_name}
-use Rattle.desk_texts.specs.ReplyTexts.{reply_text_of}
+use Rattle.desk_types.specs.Callers.{caller_name}
+use Rattle.desk_types.specs.ReplyTexts.{reply_text_of}
 use Rattle.desk_history.specs.declared.rows.Minute.{Minute}
 
 -- the columns of a call's row

@@ -5,7 +5,7 @@ use Rattle.sqlite.specs.Held.{Held, state}
 use Rattle.sqlite.specs.Order.{Row}
 use Rattle.sqlite.specs.State.{State, HasCleanDisk}
 use Rattle.sqlite.specs.Store.{Ghosts}
-use Rattle.desk_bytes.specs.Output.{AppendsBeginning}
+use Rattle.base.specs.Output.{AppendsBeginning}
 use Rattle.store_sql.specs.Effects.{Streams}
 use Rattle.store_sql.specs.Streaming.{BeginsAnswer, SparesShown, StaysShown}
 

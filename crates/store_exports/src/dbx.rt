@@ -1,6 +1,6 @@
 //! dbx: the revoked entries.
 ghost use Rattle.siglist.specs.Writing.{sha256_parts, x509_sha256_parts};
-ghost use Rattle.desk_texts.specs.declared.kind.ListedKind.TheVariants as kinds;
+ghost use Rattle.desk_types.specs.declared.kind.ListedKind.TheVariants as kinds;
 ghost use Rattle.desk_exports.specs.Exports.{dbx, revoked};
 ghost use Rattle.store_exports.specs.Exporting.{Exports};
 
@@ -8,7 +8,7 @@ use crate::fault::ExportFault;
 use crate::forms::{RevokedCertificate, RevokedDigest};
 use crate::heads::{head_count, size};
 use crate::taking::put_rows;
-use desk_bytes::Guid;
+use base::Guid;
 use siglist::{sha256_head, x509_sha256_head};
 use sqlite::{Alter, Connection};
 use std::alloc::Global;

@@ -12,7 +12,7 @@ use crate::fault::ExportFault;
 use crate::level::put_level;
 use crate::lines::put_minutes;
 use crate::shim::put_shim;
-use desk_bytes::{Guid, Refusal};
+use base::{Guid, Refusal};
 use desk_exports::Export;
 use sbat::Stamp;
 use sqlite::{Alter, Connection};

@@ -3,7 +3,7 @@ ghost use Rattle.std.specs.Prelude.{◌≡◌};
 ghost use Rattle.store_exports.specs.Faults.{IsExportFailure, row_of};
 ghost use Rattle.store_exports.specs.declared.fault.ExportFault.TheVariants as faults;
 
-use desk_bytes::{Refusal, WriteFailed};
+use base::{Refusal, WriteFailed};
 use store_reads::ReadFault;
 
 /// Why an export stopped.

@@ -7,7 +7,7 @@ ghost use Rattle.store_schema.specs.rows.Values.{component_values, digest_values
 ghost use Rattle.store_exports.specs.Rows.{BeginsRow, IsPart, WritesRow};
 
 use crate::fault::ExportFault;
-use desk_bytes::{Digest, Guid};
+use base::{Digest, Guid};
 use sbat::{Component, level_row};
 use siglist::{sha256_entry, x509_sha256_entry};
 use sqlite::Row;

@@ -2,14 +2,14 @@
 ghost use Rattle.std.specs.Prelude.{◌≡◌, ◌++◌, ◌∷◌, [], OnErr, OnOk, bytes_eq, length, ◌==◌};
 ghost use Rattle.std.specs.Io.KnownBytes.{Appends};
 ghost use Rattle.std.specs.List.{flat_map, list_any};
-ghost use Rattle.desk_bytes.specs.Output.{AppendsBeginning};
+ghost use Rattle.base.specs.Output.{AppendsBeginning};
 ghost use Rattle.siglist.specs.SignatureLists.{spelling};
 ghost use Rattle.siglist.specs.Writing.{x509_row};
 ghost use Rattle.desk_history.specs.Calls.{is_among};
 ghost use Rattle.store_exports.specs.Gathering.{bodies_text, bodiless, unfound, with_body};
 
-use desk_bytes::{Digest, Guid, WriteFailed};
-use desk_texts::Certificate;
+use base::{Digest, Guid, WriteFailed};
+use desk_types::Certificate;
 use siglist::write_x509;
 use std::alloc::Global;
 use std::io::Write;

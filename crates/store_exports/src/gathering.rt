@@ -3,11 +3,11 @@ ghost use Rattle.std.specs.Prelude.{◌≡◌, ◌++◌, ◌∷◌, [], ℕ, Lis
 ghost use Rattle.std.specs.Cmp.Lexicographic.{slice_cmp};
 ghost use Rattle.std.specs.List.Sorted.{IsStrictlySortedBy};
 ghost use Rattle.std.specs.Ordering.{nat_cmp};
-ghost use Rattle.desk_texts.specs.Commands.{IsCommand};
-ghost use Rattle.desk_texts.specs.CommandTexts.{text_of};
-ghost use Rattle.desk_texts.specs.Formed.{IsWithin};
-ghost use Rattle.desk_texts.specs.declared.command.Command.{Command as Given};
-ghost use Rattle.desk_texts.specs.declared.kind.ListedKind.TheVariants as kinds;
+ghost use Rattle.desk_types.specs.Commands.{IsCommand};
+ghost use Rattle.desk_types.specs.CommandTexts.{text_of};
+ghost use Rattle.desk_types.specs.Formed.{IsWithin};
+ghost use Rattle.desk_types.specs.declared.command.Command.{Command as Given};
+ghost use Rattle.desk_types.specs.declared.kind.ListedKind.TheVariants as kinds;
 ghost use Rattle.desk_exports.specs.Bodies.{certificate_listed};
 ghost use Rattle.desk_exports.specs.Exports.{revoked};
 ghost use Rattle.store_schema.specs.rows.Values.{digest_values};
@@ -15,8 +15,8 @@ ghost use Rattle.store_exports.specs.Gathering.{Gathers, TakesBody, gathered, un
 
 use crate::gathered::Gathered;
 use crate::lines::text_at;
-use desk_bytes::Digest;
-use desk_texts::{Certificate, Command, command_texts_differ};
+use base::Digest;
+use desk_types::{Certificate, Command, command_texts_differ};
 use sqlite::{Alter, Connection, Row};
 use std::alloc::Global;
 use store_reads::{FromRow, ReadFault};

@@ -3,7 +3,7 @@ ghost use Rattle.std.specs.Prelude.{◌≡◌, ◌∷◌, [], IfOk, OnErr, OnOk,
 ghost use Rattle.std.specs.Io.KnownBytes.{Appends};
 ghost use Rattle.sqlite.specs.declared.types.Value.TheVariants.{Int, Text};
 ghost use Rattle.sqlite_value.specs.Order.{column};
-ghost use Rattle.desk_bytes.specs.Output.{AppendsBeginning};
+ghost use Rattle.base.specs.Output.{AppendsBeginning};
 ghost use Rattle.desk_exports.specs.Exports.{minutes_text};
 ghost use Rattle.store_exports.specs.Exporting.{Exports};
 ghost use Rattle.store_exports.specs.Lines.{columns_row, line, line_of};
@@ -12,7 +12,7 @@ ghost use Rattle.store_exports.specs.Rows.{IsPart};
 use crate::fault::ExportFault;
 use crate::forms::RowForm;
 use crate::taking::put_rows;
-use desk_bytes::{WriteFailed, put_each};
+use base::{WriteFailed, put_each};
 use itoa::Buffer;
 use sqlite::types::ValueRef;
 use sqlite::{Alter, Connection, Row};

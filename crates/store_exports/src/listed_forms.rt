@@ -1,7 +1,7 @@
 //! Written forms of listed entries.
 ghost use Rattle.std.specs.Prelude.{OnErr, OnOk};
 ghost use Rattle.std.specs.Io.KnownBytes.{Appends};
-ghost use Rattle.desk_bytes.specs.Output.{AppendsBeginning};
+ghost use Rattle.base.specs.Output.{AppendsBeginning};
 ghost use Rattle.siglist.specs.SignatureLists.{spelling};
 ghost use Rattle.siglist.specs.Writing.{sha256_entry_bytes, x509_row};
 ghost use Rattle.store_schema.specs.rows.Values.{entry_values};
@@ -9,9 +9,9 @@ ghost use Rattle.store_exports.specs.Rows.{IsPart};
 
 use crate::fault::ExportFault;
 use crate::forms::RowForm;
-use desk_bytes::Guid;
+use base::Guid;
 use desk_history::Entry;
-use desk_texts::LONGEST_CERTIFICATE;
+use desk_types::LONGEST_CERTIFICATE;
 use siglist::{sha256_entry, write_x509};
 use sqlite::Row;
 use std::alloc::Global;

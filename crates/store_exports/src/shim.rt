@@ -2,7 +2,7 @@
 ghost use Rattle.std.specs.Prelude.{◌≡◌, ◌++◌, All, IfOk, OnErr, OnOk};
 ghost use Rattle.std.specs.List.{flat_map};
 ghost use Rattle.std.specs.Io.KnownBytes.{Appends};
-ghost use Rattle.desk_bytes.specs.Output.{AppendsBeginning};
+ghost use Rattle.base.specs.Output.{AppendsBeginning};
 ghost use Rattle.siglist.specs.SignatureLists.{spelling};
 ghost use Rattle.siglist.specs.Writing.{x509_row, x509_sha256_parts};
 ghost use Rattle.desk_history.specs.Formed.{IsItem};
@@ -15,7 +15,7 @@ use crate::fault::ExportFault;
 use crate::gathered::Gathered;
 use crate::gathering::gather;
 use crate::heads::MOST_DIGESTS;
-use desk_bytes::{Digest, Guid, WriteFailed};
+use base::{Digest, Guid, WriteFailed};
 use siglist::write_x509_sha256;
 use sqlite::{Alter, Connection};
 use std::alloc::Global;

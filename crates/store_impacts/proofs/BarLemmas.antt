@@ -2,7 +2,7 @@
 use Rattle.std.proofs.Common.{◌≡◌, ℕ, Bool, true, false, List, [], Option, Some, None, option_map, refl, sym, ap, ap₂, subst, ◌∙◌}
 use Rattle.std.specs.Prelude.{if◌then◌else◌}
 use Rattle.std.specs.List.{Contains}
-use Rattle.desk_texts.specs.declared.facts.Facts.{Facts}
+use Rattle.desk_types.specs.declared.facts.Facts.{Facts}
 use Rattle.desk_history.specs.Calls.{History}
 use Rattle.desk_history.specs.Images.{Image}
 use Rattle.desk_history.specs.Impact.{allows, first_rule, newly_barred_by}
@@ -19,7 +19,7 @@ use Rattle.desk_rules.proofs.StandingLemmas.{bars_alike, bars_so}
 use Rattle.store_impacts.specs.Barring.{AreFactsOf, Describes, IsBarred, barred_by, finding_by, rule_by}
 use Rattle.store_impacts.specs.Touching.{Brought, brought, kept}
 use Rattle.store_impacts.specs.declared.barring.Finding.{Finding}
-use Rattle.store_impacts.specs.declared.touched_image.Touched.{Touched}
+use Rattle.store_impacts.specs.declared.touched_image.TouchedImage.{TouchedImage}
 
 module _ (entries : Standing) (view : ListView) (x : Facts) (owner : List ℕ) (cs : History) (shown : ShowsLists view (tables owner cs) (keys_of x)) where
   -- the view bars the image exactly where it is barred
@@ -61,9 +61,9 @@ some_rule allowed (Some rule) f h =
     let same : f ≡ found_by allowed rule = cc in
     record { allows = ap (λ (x : Finding). x.is_allowed) same; is = ap (λ (x : Finding). Some x.rule) (sym same) }
 
-module _ (entries : Standing) (cs : History) (facts : Facts) (image : Touched) (are : AreFactsOf image.call facts cs) where
+module _ (entries : Standing) (cs : History) (facts : Facts) (image : TouchedImage) (are : AreFactsOf image.call facts cs) where
   same_facts : (b : Brought) → Contains (brought cs) b → kept b ≡ image → facts ≡ b.image.facts
-  same_facts b has is = are b has (ap (λ (t : Touched). t.call) is)
+  same_facts b has is = are b has (ap (λ (t : TouchedImage). t.call) is)
 
   pub shows_none : None ≡ finding_by entries cs facts → IsBarred entries image None cs
   shows_none none b has is =
@@ -78,8 +78,8 @@ module _ (entries : Standing) (cs : History) (facts : Facts) (image : Touched) (
       let it = some_rule (allows (verdict cs facts)) (rule_by entries cs facts) f found in
       let here : rule_by entries cs b.image.facts ≡ Some f.rule = ap (rule_by entries cs) (sym (same_facts b has is)) ∙ it.is in
       let allowed : f.is_allowed ≡ allows (verdict cs b.image.facts) = it.allows ∙ ap (λ x. allows (verdict cs x)) (same_facts b has is) in
-      let request : image.request ≡ b.image.request = ap (λ (t : Touched). t.request) (sym is) in
-      let file : image.file ≡ b.image.file = ap (λ (t : Touched). t.file) (sym is) in
+      let request : image.request ≡ b.image.request = ap (λ (t : TouchedImage). t.request) (sym is) in
+      let file : image.file ≡ b.image.file = ap (λ (t : TouchedImage). t.file) (sym is) in
       let row_is : Describes cs b.image.request row = subst (λ k. Describes cs k row) request of_it in
       let shown : BarredImage = shown_barred (newly_barred_by cs b.image f.rule) in
       let same : record { request = image.request; file = image.file; state = row.state; submitter = row.submitter; title = row.title; is_allowed = f.is_allowed; rule = f.rule } ≡ shown =

@@ -5,13 +5,13 @@ use Rattle.std.specs.List.{cons_option}
 use Rattle.std.proofs.lemmas.List.{map-append}
 use Rattle.std.proofs.lemmas.List.Elements.{filter-append}
 use mathlib.Core.List.{reverse-cons}
-use Rattle.desk_texts.specs.declared.command.Command.{Command}
-use Rattle.desk_texts.specs.declared.command.Command.TheVariants as command
+use Rattle.desk_types.specs.declared.command.Command.{Command}
+use Rattle.desk_types.specs.declared.command.Command.TheVariants as command
 use Rattle.desk_history.specs.Calls.{History, Item}
 use Rattle.desk_history.specs.Images.{Image, image_of, images}
 use Rattle.desk_history.specs.Requests.{requests}
 use Rattle.desk_history.specs.Verdicts.{Standing}
-use Rattle.desk_history.specs.declared.impact.File.TheVariants as files
+use Rattle.desk_history.specs.declared.impact.WhichFile.TheVariants as files
 use Rattle.store_impacts.specs.Passing.{passed_by}
 use Rattle.store_impacts.specs.Steps.{seen_of, with_image}
 use Rattle.store_impacts.specs.Touching.{Brought, brought, brought_by, is_touched, kept, touched}

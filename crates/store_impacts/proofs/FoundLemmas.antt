@@ -5,10 +5,10 @@ use Rattle.std.specs.Option.{option_map_or}
 use Rattle.std.proofs.lemmas.Bool.Decides.{nat_tests}
 use Rattle.std.proofs.lemmas.List.Elements.{All-contains, All-from_recursion, All-head, All-tail}
 use Rattle.sqlite_trees.proofs.ListLemmas.{filter-map}
-use Rattle.desk_texts.specs.declared.command.Command.{Command}
-use Rattle.desk_texts.specs.declared.command.Command.TheVariants as command
-use Rattle.desk_texts.specs.CommandTexts.{text_of}
-use Rattle.desk_texts.specs.declared.facts.Facts.{Facts}
+use Rattle.desk_types.specs.declared.command.Command.{Command}
+use Rattle.desk_types.specs.declared.command.Command.TheVariants as command
+use Rattle.desk_types.specs.CommandTexts.{text_of}
+use Rattle.desk_types.specs.declared.facts.Facts.{Facts}
 use Rattle.desk_history.specs.Calls.{History, Item}
 use Rattle.desk_history.specs.Formed.{IsHistory, IsItem}
 use Rattle.desk_history.specs.Images.{Image, image_of}
@@ -25,7 +25,7 @@ use Rattle.store_reads.specs.declared.call_texts.CallTexts.{CallTexts}
 use Rattle.store_impacts.specs.Barring.{AreFactsOf, Describes}
 use Rattle.store_impacts.specs.Passing.{image_after, passed_by}
 use Rattle.store_impacts.specs.Touching.{Brought, brought, brought_by}
-use Rattle.store_impacts.specs.declared.passed.Passed.{Passed}
+use Rattle.store_impacts.specs.declared.passed.BroughtImage.{BroughtImage}
 
 keeps : {X : Type 0} (p : X → Bool) (x : X) (xs : List X) → p x ≡ true → filter p (x ∷ xs) ≡ x ∷ filter p xs
 keeps p x xs h = ap (λ b. cond b (x ∷ filter p xs) (filter p xs)) h
@@ -99,11 +99,11 @@ image_is cs (command.Submit s) = refl
 image_is cs (command.Return h) = refl
 image_is cs _ = refl
 
-facts_in : (n k : ℕ) (p : Passed) (b : Brought) → option_map (λ m. record { call = n; image = m }) (Some (image_after k p)) ≡ Some b → p.facts ≡ b.image.facts
+facts_in : (n k : ℕ) (p : BroughtImage) (b : Brought) → option_map (λ m. record { call = n; image = m }) (Some (image_after k p)) ≡ Some b → p.facts ≡ b.image.facts
 facts_in n k p b h = let same : record { call = n; image = image_after k p } ≡ b = cc in ap (λ (c : Brought). c.image.facts) same
 
 -- the facts in the call's text are those of the image
-pub facts_are : (cs : History) → IsHistory cs → (call : ℕ) (texts : CallTexts) (p : Passed) → map texts_of (filter (λ (m : Minute). call == m.number) (minutes cs)) ≡ listed (Some texts)
+pub facts_are : (cs : History) → IsHistory cs → (call : ℕ) (texts : CallTexts) (p : BroughtImage) → map texts_of (filter (λ (m : Minute). call == m.number) (minutes cs)) ≡ listed (Some texts)
     → ((i : Item) → IsItem i → texts.text ≡ text_of i.call.command → passed_by i.call.command ≡ Some p) → AreFactsOf call p.facts cs
 facts_are cs history call texts p found read b has of_it =
     let it = All-contains (Brings cs) (brought cs) b (All-from_recursion (Brings cs) (brought cs) (all_bring cs history.formed)) has in

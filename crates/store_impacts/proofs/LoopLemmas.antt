@@ -21,7 +21,7 @@ use Rattle.store_reads.specs.Reads.{listed}
 use Rattle.desk_rules.specs.Entries.{StandsAs}
 use Rattle.store_impacts.specs.Barring.{AreBarred, IsBarred, barred_by, rule_by}
 use Rattle.store_impacts.specs.Touching.{Brought, brought, is_touched, kept, touched}
-use Rattle.store_impacts.specs.declared.touched_image.Touched.{Touched}
+use Rattle.store_impacts.specs.declared.touched_image.TouchedImage.{TouchedImage}
 use Rattle.store_impacts.proofs.BroughtLemmas.{brings_images}
 
 -- a list that isn't empty has an item
@@ -31,7 +31,7 @@ has_items (x ∷ xs) some = omega arith
 
 -- ---- one image more
 
-record Parted (P : Brought → Type 0) (bs : List Brought) (xs : List Touched) (x : Touched) : Type 0 where
+record Parted (P : Brought → Type 0) (bs : List Brought) (xs : List TouchedImage) (x : TouchedImage) : Type 0 where
   front : List Brought
   last : Brought
   is : bs ≡ front ++ last ∷ []
@@ -40,7 +40,7 @@ record Parted (P : Brought → Type 0) (bs : List Brought) (xs : List Touched) (
   front_is : map kept front ≡ xs
   last_is : kept last ≡ x
 
-parted : (P : Brought → Type 0) (bs : List Brought) (xs : List Touched) (x : Touched) → AllByRecursion P bs → map kept bs ≡ xs ++ x ∷ [] → Parted P bs xs x
+parted : (P : Brought → Type 0) (bs : List Brought) (xs : List TouchedImage) (x : TouchedImage) → AllByRecursion P bs → map kept bs ≡ xs ++ x ∷ [] → Parted P bs xs x
 parted P [] [] x all e = absurd cc
 parted P [] (y ∷ xs) x all e = absurd cc
 parted P (b ∷ []) [] x all e = record { front = []; last = b; is = refl; all = tt; own = all.0; front_is = refl; last_is = (let same : kept b ≡ x = cc in same) }
@@ -67,7 +67,7 @@ module _ (entries : Standing) (cs : History) where
   abbrev shown_of : Brought → Option BarredImage
   shown_of b = barred_by entries cs b.image
 
-  pub bars_more : (images : List Touched) (i : ℕ) (image : Touched) (found : List BarredImage) (one : Option BarredImage) → i < length images → image ≡ get_or images i image
+  pub bars_more : (images : List TouchedImage) (i : ℕ) (image : TouchedImage) (found : List BarredImage) (one : Option BarredImage) → i < length images → image ≡ get_or images i image
       → AreBarred entries (take i images) found cs → IsBarred entries image one cs → AreBarred entries (take (i + 1) images) (found ++ listed one) cs
   bars_more images i image found one low at before is bs all e =
       let more : take (i + 1) images ≡ take i images ++ image ∷ [] = ap (λ n. take n images) (add-one i) ∙ take-suc images i image low ∙ ap (λ y. take i images ++ y ∷ []) (sym at) in

@@ -1,12 +1,12 @@
 -- Why a person isn't shown impacts, from whether they are an officer.
 use Rattle.std.proofs.Common.{◌≡◌, List, ℕ, Option, Some, None, Result, Ok, Err, refl, ap, subst}
 use Rattle.std.specs.Prelude.{⊤}
-use Rattle.desk_bytes.specs.declared.refusal.Refusal.{Refusal}
-use Rattle.desk_texts.specs.declared.caller.Caller.TheVariants as callers
-use Rattle.desk_texts.specs.declared.command.Person.{Person}
+use Rattle.base.specs.declared.refusal.Refusal.{Refusal}
+use Rattle.desk_types.specs.declared.caller.Caller.TheVariants as callers
+use Rattle.desk_types.specs.declared.command.Person.{Person}
 use Rattle.desk_history.specs.Calls.{History}
 use Rattle.desk_history.specs.Shown.{IsGiven, officer, reader}
-use Rattle.store_requests.specs.Telling.{IsOfficer}
+use Rattle.store_shown.specs.Telling.{IsOfficer}
 use Rattle.store_impacts.specs.Reading.{refusal_to, refused}
 
 none_by : (due : Result Person Refusal) → IsGiven {A = Person} {B = Unit {0}} due (Ok tt) (λ _ _. ⊤) → None ≡ refused due

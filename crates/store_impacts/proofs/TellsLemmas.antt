@@ -8,7 +8,7 @@ use Rattle.store_schema.specs.Tables.{desk_layout}
 use Rattle.store_schema.specs.rows.Contents.{contents}
 use Rattle.store_sql.proofs.StopLemmas.{changes_then, turns_none}
 use Rattle.store_reads.specs.Reads.{ReadsTables}
-use Rattle.store_requests.specs.Telling.{TellsOf}
+use Rattle.store_shown.specs.Telling.{TellsOf}
 
 -- a fact of the tables, as one of the history whose tables they are
 pub of_tables : (old new : State) (P : Tables → Type 0) (Q : History → Type 0) → ((owner : List ℕ) (cs : History) → IsHistory cs → P (tables owner cs) → Q cs) → ReadsTables P old new → TellsOf Q old new

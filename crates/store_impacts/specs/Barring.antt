@@ -2,7 +2,7 @@
 use Rattle.std.specs.Prelude.{◌≡◌, ℕ, Bool, List, [], map, filter_map, Option, None, option_map, if◌then◌else◌}
 use Rattle.std.specs.List.{AllByRecursion, Contains}
 use Rattle.std.specs.Option.{option_map_or}
-use Rattle.desk_texts.specs.declared.facts.Facts.{Facts}
+use Rattle.desk_types.specs.declared.facts.Facts.{Facts}
 use Rattle.desk_history.specs.Calls.{History}
 use Rattle.desk_history.specs.Images.{Image}
 use Rattle.desk_history.specs.Impact.{allows, first_rule, impact_of, newly_barred_by, standing_of, would_force}
@@ -15,7 +15,7 @@ use Rattle.desk_history.specs.declared.rows.RequestRow.{RequestRow}
 use Rattle.desk_rules.specs.Entries.{StandsAs}
 use Rattle.store_impacts.specs.Touching.{Brought, brought, kept, touched}
 use Rattle.store_impacts.specs.declared.barring.Finding.{Finding}
-use Rattle.store_impacts.specs.declared.touched_image.Touched.{Touched}
+use Rattle.store_impacts.specs.declared.touched_image.TouchedImage.{TouchedImage}
 
 -- the first rule of the entries that bars the image, if it isn't barred now
 abbrev pub rule_by : Standing → History → Facts → Option Rule
@@ -43,12 +43,12 @@ AreFactsOf call facts cs =
     (b : Brought) → Contains (brought cs) b → b.call ≡ call → facts ≡ b.image.facts
 
 -- it is what is shown of the image that is kept so
-abbrev pub IsBarred : Standing → Touched → Option BarredImage → History → Type 0
+abbrev pub IsBarred : Standing → TouchedImage → Option BarredImage → History → Type 0
 IsBarred entries image found cs =
     (b : Brought) → Contains (brought cs) b → kept b ≡ image → found ≡ barred_by entries cs b.image
 
 -- they are what is shown of the images that are kept so
-abbrev pub AreBarred : Standing → List Touched → List BarredImage → History → Type 0
+abbrev pub AreBarred : Standing → List TouchedImage → List BarredImage → History → Type 0
 AreBarred entries images found cs =
     (bs : List Brought) → AllByRecursion (Contains (brought cs)) bs → map kept bs ≡ images
     → found ≡ filter_map (λ b. barred_by entries cs b.image) bs

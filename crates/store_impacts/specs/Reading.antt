@@ -1,9 +1,9 @@
 -- Callers who are shown impacts.
 use Rattle.std.specs.Prelude.{ℕ, Option, Some, None, Result, Ok, Err}
-use Rattle.desk_bytes.specs.declared.refusal.Refusal.{Refusal}
-use Rattle.desk_texts.specs.declared.caller.Caller.{Caller}
-use Rattle.desk_texts.specs.declared.caller.Caller.TheVariants as callers
-use Rattle.desk_texts.specs.declared.command.Person.{Person}
+use Rattle.base.specs.declared.refusal.Refusal.{Refusal}
+use Rattle.desk_types.specs.declared.caller.Caller.{Caller}
+use Rattle.desk_types.specs.declared.caller.Caller.TheVariants as callers
+use Rattle.desk_types.specs.declared.command.Person.{Person}
 use Rattle.desk_history.specs.Calls.{History}
 use Rattle.desk_history.specs.Shown.{officer, reader}
 

@@ -7,7 +7,7 @@ use Rattle.desk_history.specs.Formed.{IsHistory}
 use Rattle.desk_history.specs.Images.{Image, image_of, images}
 use Rattle.desk_history.specs.Verdicts.{Standing, bars}
 use Rattle.store_schema.specs.rows.Histories.{ShowsHistory}
-use Rattle.store_impacts.specs.declared.touched_image.Touched.{Touched}
+use Rattle.store_impacts.specs.declared.touched_image.TouchedImage.{TouchedImage}
 
 -- an image, and the number of the call that brought it
 pub record Brought : Type 0 where
@@ -29,7 +29,7 @@ abbrev pub BringsImages : Type 0
 BringsImages = (cs : History) → map (λ b. b.image) (brought cs) ≡ images cs
 
 -- what is kept of an image: its call, its request, and which file it is
-abbrev pub kept : Brought → Touched
+abbrev pub kept : Brought → TouchedImage
 kept b = record { call = b.call; request = b.image.request; file = b.image.file }
 
 -- these entries alone bar the image
@@ -37,10 +37,10 @@ abbrev pub is_touched : Standing → Brought → Bool
 is_touched entries b = bars entries b.image.facts
 
 -- the images that these entries alone bar, in the order of their calls
-abbrev pub touched : Standing → History → List Touched
+abbrev pub touched : Standing → History → List TouchedImage
 touched entries cs = map kept (filter (is_touched entries) (reverse (brought cs)))
 
 -- they are those of each history that a desk may have and that the connection shows
-abbrev pub TouchesOf : State → Standing → List Touched → Type 0
+abbrev pub TouchesOf : State → Standing → List TouchedImage → Type 0
 TouchesOf s entries found =
     (owner : List ℕ) (cs : History) → IsHistory cs → ShowsHistory s owner cs → found ≡ touched entries cs

@@ -5,21 +5,21 @@ ghost use Rattle.desk_history.specs.ImpactShown.{shown_barred};
 ghost use Rattle.desk_rules.specs.Entries.{StandsAs};
 ghost use Rattle.store_sql.specs.States.{CommitsNothing, DoesInside, Spares, StaysInside};
 ghost use Rattle.store_reads.specs.Reads.{listed};
-ghost use Rattle.store_requests.specs.Telling.{TellsOf};
+ghost use Rattle.store_shown.specs.Telling.{TellsOf};
 ghost use Rattle.store_impacts.specs.Barring as spec;
 ghost use Rattle.store_impacts.specs.Touching as touching;
 
-use crate::Touched;
+use crate::TouchedImage;
 use crate::passed::passed_in;
 use desk_history::{
     BarredImage, RequestRow, Rule, Standing, Verdict, bars, entries_bar_alone, rule_of,
 };
 use desk_rules::verdict;
-use desk_texts::{Facts, RequestNumber};
+use desk_types::{Facts, RequestNumber};
 use sqlite::{Alter, Transaction};
 use std::alloc::Global;
 use store_reads::{ReadFault, call_numbered, request_numbered};
-use store_views::list_view;
+use store_decision_rows::list_view;
 
 /// What is found of an image that isn't barred: whether it is allowed now, and the rule of the
 /// entries that would bar it.
@@ -115,7 +115,7 @@ fn barred_image<S: Alter, E: Standing>(
     alloc: Global,
     tx: &mut Transaction<'_, S>,
     entries: &E,
-    image: Touched,
+    image: TouchedImage,
 ) -> Result<Option<BarredImage>, ReadFault>
     ensures same_reference { tx.new.conn.ghost_name ≡ tx.old.conn.ghost_name }
     ensures value { DoesInside S.Store tx.old.conn.now tx.new.conn.now result
@@ -158,7 +158,7 @@ fn images_of<S: Alter, E: Standing>(
     alloc: Global,
     tx: &mut Transaction<'_, S>,
     entries: &E,
-    touched: &[Touched],
+    touched: &[TouchedImage],
 ) -> Result<Vec<BarredImage>, ReadFault>
     ensures same_reference { tx.new.conn.ghost_name ≡ tx.old.conn.ghost_name }
     ensures value { DoesInside S.Store tx.old.conn.now tx.new.conn.now result
@@ -183,11 +183,11 @@ fn images_of<S: Alter, E: Standing>(
 /// Without images nothing is read. Takes memory for one image at a time, and for what is returned.
 ///
 /// `Row`: a call, or a request, isn't as a desk left it.
-pub fn barred<S: Alter, E: Standing>(
+pub fn barred_images<S: Alter, E: Standing>(
     alloc: Global,
     tx: &mut Transaction<'_, S>,
     entries: &E,
-    touched: &[Touched],
+    touched: &[TouchedImage],
 ) -> Result<Vec<BarredImage>, ReadFault>
     ensures same_reference { tx.new.conn.ghost_name ≡ tx.old.conn.ghost_name }
     ensures value { DoesInside S.Store tx.old.conn.now tx.new.conn.now result

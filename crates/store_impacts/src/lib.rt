@@ -10,8 +10,8 @@ mod passing;
 mod reader;
 mod touched_image;
 
-pub use barring::barred;
+pub use barring::barred_images;
 pub use laws::{images_are_brought, untouched_bars_none};
-pub use passing::touched;
+pub use passing::touched_images;
 pub use reader::refusal_to;
-pub use touched_image::Touched;
+pub use touched_image::TouchedImage;

@@ -1,46 +1,46 @@
 //! Images in the texts of commands.
 ghost use Rattle.std.specs.Prelude.{◌≡◌, None, IfOk, false};
-ghost use Rattle.desk_texts.specs.Commands.{IsCommand};
-ghost use Rattle.desk_texts.specs.CommandTexts.{text_of};
-ghost use Rattle.desk_texts.specs.Formed.{IsWithin};
-ghost use Rattle.desk_texts.specs.declared.command.Command.{Command as Given};
+ghost use Rattle.desk_types.specs.Commands.{IsCommand};
+ghost use Rattle.desk_types.specs.CommandTexts.{text_of};
+ghost use Rattle.desk_types.specs.Formed.{IsWithin};
+ghost use Rattle.desk_types.specs.declared.command.Command.{Command as Given};
 ghost use Rattle.store_impacts.specs.Passing as spec;
 
-use desk_history::File;
-use desk_texts::{Command, Facts, RequestNumber, command_texts_differ};
+use desk_history::WhichFile;
+use desk_types::{Command, Facts, RequestNumber, command_texts_differ};
 use std::alloc::Global;
 use store_reads::ReadFault;
 
 /// The image of a command, with the request that the command names: a Return names one, a Submit
 /// none.
 #[derive(Drop)]
-pub(crate) struct Passed {
+pub(crate) struct BroughtImage {
     pub(crate) named: Option<RequestNumber>,
     pub(crate) facts: Facts,
 }
 
-impl Passed {
+impl BroughtImage {
     /// Which file it is.
-    pub(crate) fn file(&self) -> File
+    pub(crate) fn file(&self) -> WhichFile
         ensures { result ≡ spec.file_of self.now }
     {
         match self.named {
-            Some(_) => File::Returned,
-            None => File::Submitted,
+            Some(_) => WhichFile::Returned,
+            None => WhichFile::Submitted,
         }
     }
 }
 
 /// The image that the command brings, if it brings one.
-fn passed_by(command: Command) -> Option<Passed>
+fn passed_by(command: Command) -> Option<BroughtImage>
     ensures { result ≡ spec.passed_by command }
 {
     match command {
-        Command::Submit(submission) => Some(Passed {
+        Command::Submit(submission) => Some(BroughtImage {
             named: None,
             facts: submission.facts,
         }),
-        Command::Return(returned) => Some(Passed {
+        Command::Return(returned) => Some(BroughtImage {
             named: Some(returned.request),
             facts: returned.facts,
         }),
@@ -71,7 +71,7 @@ fn brings(text: &[u8]) -> bool
 /// Return is parsed, which takes memory for its facts.
 ///
 /// `Row`: the text begins like theirs and isn't a command's.
-pub(crate) fn passed_in(alloc: Global, text: &[u8]) -> Result<Option<Passed>, ReadFault>
+pub(crate) fn passed_in(alloc: Global, text: &[u8]) -> Result<Option<BroughtImage>, ReadFault>
     ensures { IfOk result (λ passed. (c : Given) → IsCommand c → IsWithin c
         → text.now ≡ text_of c → passed ≡ spec.passed_by c) }
 {

@@ -10,12 +10,12 @@ ghost use Rattle.store_impacts.specs.Steps.{SeesCall, with_image};
 ghost use Rattle.store_impacts.specs.Touching.{TouchesOf};
 ghost use Rattle.std.specs.Prelude.{Some};
 
-use crate::Touched;
+use crate::TouchedImage;
 use crate::columns::{number_at, text_at};
-use crate::passed::{Passed, passed_in};
-use desk_bytes::Refusal;
-use desk_history::{File, Standing, bars};
-use desk_texts::RequestNumber;
+use crate::passed::{BroughtImage, passed_in};
+use base::Refusal;
+use desk_history::{WhichFile, Standing, bars};
+use desk_types::RequestNumber;
 use sqlite::{Alter, Connection, Row};
 use std::alloc::Global;
 use store_reads::ReadFault;
@@ -29,12 +29,12 @@ pub(crate) struct Pass<'a, E> {
     alloc: Global,
     entries: &'a E,
     requests: u64,
-    kept: Vec<Touched>,
+    kept: Vec<TouchedImage>,
 }
 
 /// The request of the image after so many requests: the one that its command names, or the next.
 /// `Row`: no request can have that number.
-fn request_of(requests: u64, passed: &Passed) -> Result<RequestNumber, ReadFault>
+fn request_of(requests: u64, passed: &BroughtImage) -> Result<RequestNumber, ReadFault>
     ensures { IfOk result (λ number. number ≡ request_after requests passed.now) }
 {
     if let Some(number) = passed.named {
@@ -51,7 +51,7 @@ fn request_of(requests: u64, passed: &Passed) -> Result<RequestNumber, ReadFault
 
 impl<E: Standing> Pass<'_, E> {
     /// Sees the image of the call of this number, and keeps it if the entries bar it.
-    fn see(&mut self, call: u64, passed: &Passed) -> Result<(), ReadFault>
+    fn see(&mut self, call: u64, passed: &BroughtImage) -> Result<(), ReadFault>
         ensures entries { self.new.entries.now ≡ self.old.entries.now }
         ensures value { OnOk result (
             record { requests = self.new.requests; kept = self.new.kept.items }
@@ -62,13 +62,13 @@ impl<E: Standing> Pass<'_, E> {
         let request = request_of(self.requests, passed)?;
         let file = passed.file();
         match file {
-            File::Submitted => self.requests = request.value(),
-            File::Returned => {}
+            WhichFile::Submitted => self.requests = request.value(),
+            WhichFile::Returned => {}
         }
         if !bars(self.entries, &passed.facts) {
             return Ok(());
         }
-        let image = Touched {
+        let image = TouchedImage {
             call,
             request,
             file,
@@ -107,11 +107,11 @@ impl<E: Standing> TakesRow for Pass<'_, E> {
 ///
 /// `NoMemory`: memory was refused, to the desk or to the store. `Store`: the store failed, or isn't
 /// as a desk left it.
-pub fn touched<S: Alter, E: Standing>(
+pub fn touched_images<S: Alter, E: Standing>(
     alloc: Global,
     conn: &mut Connection<S>,
     entries: &E,
-) -> Result<Vec<Touched>, Refusal>
+) -> Result<Vec<TouchedImage>, Refusal>
     ensures ok { HasCleanDisk (state S.Store conn.new)
         → IfOk result (λ found. TouchesOf (state S.Store conn.old)
         (E.Standing.standing entries.now) found.items) }

@@ -2,16 +2,16 @@
 ghost use Rattle.std.specs.Prelude.{◌≡◌, ◌≢◌, None, Ok, IfOk, IfSome, option_copied};
 ghost use Rattle.desk_history.specs.People.{people};
 ghost use Rattle.store_reads.specs.People.{IsOneOf};
-ghost use Rattle.store_requests.specs.Telling.{IsOfficerRefusal, TellsOf};
+ghost use Rattle.store_shown.specs.Telling.{IsOfficerRefusal, TellsOf};
 ghost use Rattle.store_sql.specs.States.{CommitsNothing, DoesInside, Spares, StaysInside};
 ghost use Rattle.store_impacts.specs.Reading as spec;
 
-use desk_bytes::Refusal;
-use desk_texts::{Caller, Person};
+use base::Refusal;
+use desk_types::{Caller, Person};
 use sqlite::{Alter, Transaction};
 use std::alloc::Global;
 use store_reads::ReadFault;
-use store_requests::officer_of;
+use store_shown::officer_of;
 
 /// Why the caller isn't shown impacts, or nothing if they are: officers are, and the console. An
 /// officer isn't looked up if that is `kept_person`, who must be one of the desk's people (`value`).

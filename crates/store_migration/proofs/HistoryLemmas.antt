@@ -4,7 +4,7 @@ use Rattle.std.specs.Prelude.{count_by}
 use Rattle.std.specs.List.{list_all}
 use Rattle.std.proofs.lemmas.Bool.{and_parts}
 use Rattle.std.proofs.lemmas.List.Sums.{sum_by-cons}
-use Rattle.desk_texts.specs.declared.command.Call.{Call}
+use Rattle.desk_types.specs.declared.command.Call.{Call}
 use Rattle.desk_history.specs.declared.rows.ProposalRow.{ProposalRow}
 use Rattle.desk_history.specs.Calls.{First, History, Item, Rules, Second, is_first, under}
 use Rattle.desk_history.specs.Proposals.{Proposal, proposal_state, proposals, proposed_by, with_next}

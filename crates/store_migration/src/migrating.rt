@@ -10,7 +10,7 @@ ghost use Rattle.store_migration.specs.Migrations.{KeepsShown, Migrates, TurnsFi
 ghost use Rattle.store_schema.specs.Names.{takes_an_added_name};
 
 use crate::names::names_are_free;
-use desk_bytes::Refusal;
+use base::Refusal;
 use sqlite::{Alter, Connection, Transaction};
 use store_reads::{Counted, count};
 use store_schema::make_added;

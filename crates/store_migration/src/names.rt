@@ -7,7 +7,7 @@ ghost use Rattle.store_sql.specs.States.{Spares};
 ghost use Rattle.store_reads.specs.Failures.{IsFailure};
 ghost use Rattle.store_migration.specs.Migrations.{KeepsShown};
 
-use desk_bytes::Refusal;
+use base::Refusal;
 use sqlite::{Alter, Connection};
 use store_schema::{SELECT_DESK, takes_an_added_name};
 use store_sql::StoreFault;

@@ -7,7 +7,7 @@ use Rattle.std.proofs.lemmas.Bool.{and_parts, not-true}
 use Rattle.std.proofs.lemmas.Bool.Decides.{nat_tests}
 use Rattle.std.proofs.lemmas.List.Elements.{All-head, All-tail}
 use Rattle.sqlite_trees.proofs.ListLemmas.{all-permutation, all_of, filter_all, filter_none}
-use Rattle.desk_texts.specs.declared.proposal.Proposal.{Proposal as ShownProposal}
+use Rattle.desk_types.specs.declared.proposal.Proposal.{Proposal as ShownProposal}
 use Rattle.desk_history.specs.Calls.{are_apart}
 use Rattle.desk_history.specs.Tables.{Tables}
 use Rattle.desk_history.specs.declared.rows.ProposalRow.{ProposalRow}

@@ -3,7 +3,7 @@ use Rattle.std.proofs.Common.{◌≡◌, ℕ, ◌+◌, ◌==◌, Bool, true, fal
 use Rattle.std.specs.List.{AllByRecursion, AllZip}
 use mir.Val.{bool_byte}
 use Rattle.std.proofs.lemmas.List.Elements.{filter-append}
-use Rattle.desk_texts.specs.declared.proposal.Proposal.{Proposal}
+use Rattle.desk_types.specs.declared.proposal.Proposal.{Proposal}
 use Rattle.desk_history.specs.Tables.{Tables}
 use Rattle.desk_history.specs.declared.rows.ProposalRow.{ProposalRow}
 use Rattle.store_reads.specs.ProposalColumns.{head_of}

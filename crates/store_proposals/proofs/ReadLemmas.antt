@@ -4,7 +4,7 @@ use Rattle.std.specs.Prelude.{flat_map}
 use Rattle.std.specs.List.{AllByRecursion}
 use Rattle.std.specs.List.Sorted.{IsPermutation}
 use Rattle.std.proofs.lemmas.List.Elements.{All-filter, All-head}
-use Rattle.desk_texts.specs.Imports.{Imported}
+use Rattle.desk_types.specs.Imports.{Imported}
 use Rattle.desk_history.specs.declared.rows.ProposalItem.{ProposalItem}
 use Rattle.desk_history.specs.declared.rows.ProposalItemRow.{ProposalItemRow}
 use Rattle.desk_history.specs.declared.rows.ProposalRow.{ProposalRow}

@@ -4,10 +4,10 @@ use Rattle.std.specs.Prelude.{IfSome}
 use Rattle.std.proofs.lemmas.Bool.Decides.{nat_tests}
 use Rattle.std.proofs.lemmas.List.Elements.{All-cons, All-head, All-map, All-nil, All-tail}
 use Rattle.sbat.specs.Fields.{is_stamp}
-use Rattle.desk_texts.specs.Commands.{IsCommand, IsStamp}
-use Rattle.desk_texts.specs.declared.command.Call.{Call}
-use Rattle.desk_texts.specs.declared.command.Command.{Command}
-use Rattle.desk_texts.specs.declared.command.Command.TheVariants as command
+use Rattle.desk_types.specs.Commands.{IsCommand, IsStamp}
+use Rattle.desk_types.specs.declared.command.Call.{Call}
+use Rattle.desk_types.specs.declared.command.Command.{Command}
+use Rattle.desk_types.specs.declared.command.Command.TheVariants as command
 use Rattle.desk_history.specs.Calls.{First, History, Rules, Second, under}
 use Rattle.desk_history.specs.Formed.{IsItem}
 use Rattle.desk_history.specs.Proposals.{Named, Proposal, named_by, proposal_state, proposals, proposed_by, with_next}

@@ -1,10 +1,10 @@
 -- All proposals, each with the counts of its items.
 use Rattle.std.specs.Prelude.{◌≡◌, ◌==◌, ℕ, IsTrue, List, [], ◌∷◌, filter, length, map, true, Option, Some, None, IfSome, MatchOption}
 use Rattle.std.specs.List.{All, AllZip}
-use Rattle.desk_texts.specs.Imports.{Imported}
-use Rattle.desk_texts.specs.declared.proposal.Proposal.{Proposal}
-use Rattle.desk_texts.specs.declared.proposal.ProposalKind.{ProposalKind}
-use Rattle.desk_texts.specs.declared.proposal.ProposalKind.TheVariants as kinds
+use Rattle.desk_types.specs.Imports.{Imported}
+use Rattle.desk_types.specs.declared.proposal.Proposal.{Proposal}
+use Rattle.desk_types.specs.declared.proposal.ProposalKind.{ProposalKind}
+use Rattle.desk_types.specs.declared.proposal.ProposalKind.TheVariants as kinds
 use Rattle.desk_history.specs.Calls.{are_apart}
 use Rattle.desk_history.specs.declared.rows.ProposalRow.{ProposalRow}
 use Rattle.desk_history.specs.Tables.{Tables}

@@ -2,7 +2,7 @@
 use Rattle.std.specs.Prelude.{◌≡◌, ◌⊎◌, ◌≤◌, ℕ, ◌+◌, ◌==◌, ⊤, Bool, true, not, ◌&&◌, List, [], ◌∷◌, ◌++◌, filter, length, map, Option, Some, None, bytes_eq}
 use Rattle.std.specs.List.{AllZip}
 use mir.Val.{bool_byte}
-use Rattle.desk_texts.specs.declared.proposal.Proposal.{Proposal}
+use Rattle.desk_types.specs.declared.proposal.Proposal.{Proposal}
 use Rattle.desk_history.specs.Refusals.{is_closed}
 use Rattle.desk_history.specs.Tables.{Tables}
 use Rattle.store_reads.specs.ProposalColumns.{head_of}

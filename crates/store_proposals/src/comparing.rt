@@ -3,7 +3,7 @@ ghost use Rattle.std.specs.Prelude.{◌≡◌, Some, length, slice_get, true};
 ghost use Rattle.desk_history.specs.Items.{items_from, items_of};
 
 use desk_history::{ProposalItem, ProposalItemRow};
-use desk_texts::{Import, ProposalNumber};
+use desk_types::{Import, ProposalNumber};
 
 /// Whether the item is the one at this place; places count digests, then certificates, then
 /// components.

@@ -6,7 +6,7 @@ ghost use Rattle.store_proposals.specs.Listing as spec;
 
 use crate::reading::proposal_of;
 use desk_history::ProposalRow;
-use desk_texts::{Proposal, ProposalKind, ProposalNumber};
+use desk_types::{Proposal, ProposalKind, ProposalNumber};
 use sqlite::{Alter, Transaction};
 use std::alloc::Global;
 use store_reads::{ProposalHead, ReadFault, heads_all};
@@ -55,7 +55,7 @@ fn shown_row(row: ProposalRow) -> Proposal
 }
 
 /// The proposal of the number, as it is shown, with its items counted.
-fn counted<S: Alter>(
+fn shown_with_counts<S: Alter>(
     alloc: Global,
     tx: &mut Transaction<'_, S>,
     number: ProposalNumber,
@@ -86,7 +86,7 @@ pub(crate) fn shown_of<S: Alter>(
     ensures survives { Spares S.Store tx.old.conn.now tx.new.conn.now }
 {
     let Some(counts) = counts_by(head.kind) else {
-        let shown = counted(alloc, tx, head.number)?;
+        let shown = shown_with_counts(alloc, tx, head.number)?;
         return Ok(shown);
     };
     Ok(Proposal {

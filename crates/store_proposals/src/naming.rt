@@ -2,9 +2,9 @@
 ghost use Rattle.std.specs.Prelude.{◌≡◌, IfOk};
 ghost use Rattle.store_proposals.specs.Reading.{IsStampOf};
 
-use desk_bytes::Digest;
+use base::Digest;
 use desk_history::{ProposalItem, ProposalItemRow};
-use desk_texts::{Digests, Import, ImportedComponents};
+use desk_types::{Digests, Import, ImportedComponents};
 use sbat::{Component, Stamp};
 use std::alloc::Global;
 use store_reads::{ProposalHead, ReadFault};

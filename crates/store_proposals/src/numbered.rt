@@ -6,7 +6,7 @@ ghost use Rattle.store_sql.specs.States.{DoesInside, CommitsNothing, Spares};
 ghost use Rattle.store_proposals.specs.Numbered.{ListsUpTo, TakesNumbered, picks_head};
 
 use crate::listing::shown_of;
-use desk_texts::{PersonName, Proposal, ProposalNumber, ProposalState};
+use desk_types::{PersonName, Proposal, ProposalNumber, ProposalState};
 use sqlite::{Alter, Transaction};
 use std::alloc::Global;
 use store_reads::{ProposalHead, ReadFault, head_numbered};

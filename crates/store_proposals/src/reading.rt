@@ -7,7 +7,7 @@ ghost use Rattle.store_proposals.specs.Reading.{IsRead};
 use crate::comparing::are_items;
 use crate::naming::named_of;
 use desk_history::ProposalRow;
-use desk_texts::ProposalNumber;
+use desk_types::ProposalNumber;
 use sqlite::{Alter, Transaction};
 use std::alloc::Global;
 use store_reads::{ReadFault, head_numbered, items_of};

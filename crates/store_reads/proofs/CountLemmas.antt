@@ -11,7 +11,7 @@ use Rattle.store_schema.specs.Named.{equals}
 use Rattle.store_schema.specs.Tables as tables
 use Rattle.store_schema.specs.declared.counting.TheConstants as texts
 use Rattle.store_schema.proofs.CountFacts as facts
-use Rattle.desk_texts.specs.Words.{kind_text, state_text}
+use Rattle.desk_types.specs.Words.{kind_text, state_text}
 use Rattle.store_reads.specs.Counting.{count_params, count_text, counted}
 use Rattle.store_reads.specs.Reads.{IsCounted, ReadsTables}
 use Rattle.store_reads.specs.declared.counts.Counted.{Counted}

@@ -12,7 +12,7 @@ use Rattle.store_schema.specs.Named.{equals}
 use Rattle.store_schema.specs.Tables as tables
 use Rattle.store_schema.specs.declared.selecting.TheConstants.{SELECT_PROPOSAL, SELECT_PROPOSAL_ITEMS, SELECT_PROPOSALS}
 use Rattle.store_schema.proofs.SelectFacts.{select_proposal, select_proposal_items, select_proposals}
-use Rattle.desk_texts.specs.Words.{item_kind_text, proposal_kind_text, proposal_state_text}
+use Rattle.desk_types.specs.Words.{item_kind_text, proposal_kind_text, proposal_state_text}
 use Rattle.desk_history.specs.declared.rows.ProposalItem.{ProposalItem}
 use Rattle.desk_history.specs.declared.rows.ProposalItem.TheVariants as items
 use Rattle.desk_history.specs.declared.rows.ProposalItemRow.{ProposalItemRow}

@@ -9,8 +9,8 @@ use Rattle.store_schema.specs.Named.{equals}
 use Rattle.store_schema.specs.Tables as tables
 use Rattle.store_schema.specs.declared.selecting.TheConstants as texts
 use Rattle.store_schema.proofs.SelectFacts as facts
-use Rattle.desk_texts.specs.declared.kind.ListedKind.{ListedKind}
-use Rattle.desk_texts.specs.declared.kind.ListedKind.TheVariants as kinds
+use Rattle.desk_types.specs.declared.kind.ListedKind.{ListedKind}
+use Rattle.desk_types.specs.declared.kind.ListedKind.TheVariants as kinds
 use Rattle.store_reads.specs.Answers.{select_revoked}
 use Rattle.store_reads.specs.Reads.{Finds, ReadsTables, listed, revoked_in}
 use Rattle.store_reads.proofs.FindLemmas.{tells_row}

@@ -2,7 +2,7 @@
 use Rattle.std.specs.Prelude.{ℕ, List, [], ◌∷◌, count_by, length}
 use Rattle.sqlite.specs.declared.types.Value.TheVariants.{Text}
 use Rattle.sqlite.specs.Order.{Row}
-use Rattle.desk_texts.specs.Words.{kind_text, state_text}
+use Rattle.desk_types.specs.Words.{kind_text, state_text}
 use Rattle.desk_history.specs.Calls.{is_same_kind}
 use Rattle.desk_history.specs.Requests.{is_state}
 use Rattle.desk_history.specs.Tables.{Tables}

@@ -1,6 +1,6 @@
 -- Reasons why a read fails.
-use Rattle.desk_bytes.specs.declared.refusal.Refusal.{Refusal}
-use Rattle.desk_bytes.specs.declared.refusal.Refusal.TheVariants as refusals
+use Rattle.base.specs.declared.refusal.Refusal.{Refusal}
+use Rattle.base.specs.declared.refusal.Refusal.TheVariants as refusals
 use Rattle.store_reads.specs.declared.fault.ReadFault.{ReadFault}
 use Rattle.store_reads.specs.declared.fault.ReadFault.TheVariants as faults
 use Rattle.store_sql.specs.declared.fault.StoreFault.{StoreFault}

@@ -2,7 +2,7 @@
 use Rattle.std.specs.Prelude.{pos, [], ◌∷◌, unwrap_or}
 use Rattle.sqlite.specs.declared.types.Value.TheVariants.{Int, Text}
 use Rattle.sqlite.specs.Order.{Row}
-use Rattle.desk_texts.specs.Words.{proposal_kind_text, proposal_state_text}
+use Rattle.desk_types.specs.Words.{proposal_kind_text, proposal_state_text}
 use Rattle.desk_history.specs.declared.rows.ProposalRow.{ProposalRow}
 use Rattle.store_reads.specs.declared.proposal_head.ProposalHead.{ProposalHead}
 

@@ -2,7 +2,7 @@
 ghost use Rattle.std.specs.Prelude.{◌≡◌, ℕ, List, string_bytes};
 
 use desk_history::CommandText;
-use desk_texts::Key;
+use desk_types::Key;
 use std::marker::Model;
 
 /// A text of a column. A contract sees the list of its bytes.

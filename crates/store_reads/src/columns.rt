@@ -4,11 +4,11 @@
 ghost use Rattle.std.specs.Prelude.{◌≡◌, ◌<◌, IfOk, length, pos};
 ghost use Rattle.sqlite.specs.declared.types.Value.TheVariants.{Blob, Int, Text};
 ghost use Rattle.sqlite_value.specs.Order.{column};
-ghost use Rattle.desk_texts.specs.Words.{kind_text, role_text, state_text, vote_text};
+ghost use Rattle.desk_types.specs.Words.{kind_text, role_text, state_text, vote_text};
 
 use crate::ReadFault;
-use desk_bytes::Digest;
-use desk_texts::{
+use base::Digest;
+use desk_types::{
     ListedKind, Note, PersonName, RequestNumber, Role, State, TextFault, Title, Vote,
 };
 use sbat::{ComponentName, Generation, NameFault};

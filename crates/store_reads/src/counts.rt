@@ -7,7 +7,7 @@ ghost use Rattle.store_reads.specs.Reads.{IsCounted, ReadsTables};
 ghost use Rattle.store_sql.specs.States.{DoesInside, CommitsNothing, Spares, StaysInside};
 
 use crate::ReadFault;
-use desk_texts::{ListedKind, State};
+use desk_types::{ListedKind, State};
 use sqlite::types::ValueRef;
 use sqlite::{Alter, Transaction, params};
 use store_schema::{

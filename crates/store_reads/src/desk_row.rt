@@ -5,7 +5,7 @@ ghost use Rattle.sqlite_value.specs.Order.{column};
 ghost use Rattle.store_reads.specs.Own.{IsGuid, ReadsBy};
 ghost use Rattle.store_reads.specs.declared.desk_row.OwnRow.{OwnRow as Own};
 
-use desk_bytes::Guid;
+use base::Guid;
 use sbat::Stamp;
 use sqlite::Row;
 use sqlite::types::ValueRef;

@@ -3,7 +3,7 @@ ghost use Rattle.std.specs.Prelude.{◌≡◌};
 ghost use Rattle.store_reads.specs.Faults.{of_store, refusal_of};
 ghost use Rattle.store_sql.specs.Faults.{fault_of};
 
-use desk_bytes::Refusal;
+use base::Refusal;
 use sqlite::Error;
 use store_sql::StoreFault;
 use thiserror::Error as ErrorText;

@@ -9,9 +9,9 @@ use crate::columns::{
     column_of, component_name_at, digest_at, generation_at, kind_at, name_at, role_at,
 };
 use crate::from_row::FromRow;
-use desk_bytes::Digest;
+use base::Digest;
 use desk_history::{Entry, EntryBody};
-use desk_texts::Person;
+use desk_types::Person;
 use sbat::Component;
 use sqlite::Row;
 use std::alloc::Global;

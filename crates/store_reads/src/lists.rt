@@ -8,9 +8,9 @@ ghost use Rattle.store_sql.specs.States.{DoesInside, CommitsNothing, Spares, Sta
 
 use crate::ReadFault;
 use crate::reading::row_of;
-use desk_bytes::Digest;
+use base::Digest;
 use desk_history::Entry;
-use desk_texts::ListedKind;
+use desk_types::ListedKind;
 use sbat::{Component, ComponentName};
 use sqlite::{Alter, Transaction, params};
 use std::alloc::Global;

@@ -8,8 +8,8 @@ ghost use Rattle.store_schema.specs.Tables as tables;
 
 use crate::ReadFault;
 use crate::reading::{row_of, rows_of};
-use desk_bytes::Digest;
-use desk_texts::Person;
+use base::Digest;
+use desk_types::Person;
 use sqlite::{Alter, Transaction, params};
 use std::alloc::Global;
 use store_schema::{SELECT_PEOPLE, SELECT_PERSON, SELECT_PERSON_OF_TOKEN};

@@ -4,11 +4,11 @@
 ghost use Rattle.std.specs.Prelude.{◌≡◌, IfOk, pos};
 ghost use Rattle.sqlite.specs.declared.types.Value.TheVariants.{Int, Text};
 ghost use Rattle.sqlite_value.specs.Order.{column};
-ghost use Rattle.desk_texts.specs.Words.{item_kind_text, proposal_kind_text, proposal_state_text};
+ghost use Rattle.desk_types.specs.Words.{item_kind_text, proposal_kind_text, proposal_state_text};
 
 use crate::ReadFault;
 use crate::columns::column_of;
-use desk_texts::{ItemKind, ProposalKind, ProposalNumber, ProposalState};
+use desk_types::{ItemKind, ProposalKind, ProposalNumber, ProposalState};
 use sqlite::Row;
 use sqlite::types::Value;
 

@@ -5,7 +5,7 @@ use crate::ReadFault;
 use crate::columns::{column_of, name_at};
 use crate::from_row::FromRow;
 use crate::proposal_columns::{proposal_at, proposal_kind_at, proposal_state_at};
-use desk_texts::{PersonName, ProposalKind, ProposalNumber, ProposalState};
+use desk_types::{PersonName, ProposalKind, ProposalNumber, ProposalState};
 use sqlite::Row;
 use std::alloc::Global;
 

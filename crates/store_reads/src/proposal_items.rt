@@ -3,15 +3,15 @@ ghost use Rattle.std.specs.Prelude.{◌≡◌, [], IfOk, OnOk, pos};
 ghost use Rattle.sqlite.specs.declared.types.Value.TheVariants.{Blob, Int, Text};
 ghost use Rattle.sqlite_value.specs.Order.{column};
 ghost use Rattle.store_schema.specs.rows.Values.{item_digest, item_generation, item_kind, item_name, item_values};
-ghost use Rattle.desk_texts.specs.Words.{item_kind_text};
+ghost use Rattle.desk_types.specs.Words.{item_kind_text};
 
 use crate::ReadFault;
 use crate::columns::{column_of, component_name_at, digest_at, generation_at};
 use crate::from_row::FromRow;
 use crate::proposal_columns::{item_kind_at, proposal_at};
-use desk_bytes::Digest;
+use base::Digest;
 use desk_history::{ProposalItem, ProposalItemRow};
-use desk_texts::ItemKind;
+use desk_types::ItemKind;
 use sbat::Component;
 use sqlite::Row;
 use std::alloc::Global;

@@ -12,7 +12,7 @@ use crate::proposal_columns::number_of;
 use crate::proposal_head::ProposalHead;
 use crate::reading::{row_of, rows_of};
 use desk_history::ProposalItemRow;
-use desk_texts::ProposalNumber;
+use desk_types::ProposalNumber;
 use sqlite::{Alter, Transaction, params};
 use std::alloc::Global;
 use store_schema::{SELECT_PROPOSAL, SELECT_PROPOSAL_ITEMS, SELECT_PROPOSALS};

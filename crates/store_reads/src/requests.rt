@@ -9,7 +9,7 @@ use crate::ReadFault;
 use crate::columns::key_of;
 use crate::reading::{row_of, rows_of};
 use desk_history::{RequestCertificateRow, RequestComponentRow, RequestRow, ReturnRow, VoteRow};
-use desk_texts::RequestNumber;
+use desk_types::RequestNumber;
 use sqlite::{Alter, Transaction, params};
 use std::alloc::Global;
 use store_schema::{

@@ -2,7 +2,7 @@
 ghost use Rattle.std.specs.Prelude.{◌≡◌};
 ghost use Rattle.store_sql.specs.Faults.{fault_of, refusal_of};
 
-use desk_bytes::Refusal;
+use base::Refusal;
 use sqlite::{Error, ErrorCode};
 use thiserror::Error as ErrorText;
 

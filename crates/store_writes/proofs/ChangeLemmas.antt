@@ -10,12 +10,12 @@ use Rattle.store_sql.proofs.ValueLemmas.{cast_null, cast_int, text_is, blob_is, 
 use Rattle.store_schema.specs.Named.{equals, set_to}
 use Rattle.store_schema.specs.Tables.{desk, requests, listed, components, proposals}
 use Rattle.sbat.specs.declared.component.Component.{Component}
-use Rattle.desk_texts.specs.declared.kind.ListedKind.{ListedKind}
-use Rattle.desk_texts.specs.declared.kind.ListedKind.TheVariants.{Digest, Certificate}
-use Rattle.desk_texts.specs.declared.command.Listing.{Listing}
-use Rattle.desk_texts.specs.declared.reply.Outcome.{Outcome}
-use Rattle.desk_texts.specs.declared.proposal.ProposalOutcome.{ProposalOutcome}
-use Rattle.desk_texts.specs.Words.{kind_text, proposal_state_text, state_text}
+use Rattle.desk_types.specs.declared.kind.ListedKind.{ListedKind}
+use Rattle.desk_types.specs.declared.kind.ListedKind.TheVariants.{Digest, Certificate}
+use Rattle.desk_types.specs.declared.command.Listing.{Listing}
+use Rattle.desk_types.specs.declared.reply.Outcome.{Outcome}
+use Rattle.desk_types.specs.declared.proposal.ProposalOutcome.{ProposalOutcome}
+use Rattle.desk_types.specs.Words.{kind_text, proposal_state_text, state_text}
 use Rattle.desk_history.specs.declared.rows.Entry.{Entry}
 use Rattle.desk_history.specs.declared.rows.ProposalRow.{ProposalRow}
 use Rattle.desk_history.specs.declared.rows.RequestRow.{RequestRow}

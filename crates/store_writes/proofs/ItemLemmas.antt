@@ -7,8 +7,8 @@ use Rattle.sqlite.specs.State.{State}
 use Rattle.store_sql.specs.States.{Moves, Sees, Turns}
 use Rattle.store_sql.proofs.StopLemmas.{turns_then}
 use Rattle.store_schema.specs.Tables.{desk_layout}
-use Rattle.desk_texts.specs.declared.proposal.ProposalOutcome.{ProposalOutcome}
-use Rattle.desk_texts.specs.declared.proposal.ProposalState.{ProposalState}
+use Rattle.desk_types.specs.declared.proposal.ProposalOutcome.{ProposalOutcome}
+use Rattle.desk_types.specs.declared.proposal.ProposalState.{ProposalState}
 use Rattle.desk_history.specs.declared.rows.ProposalItem.{ProposalItem}
 use Rattle.desk_history.specs.declared.rows.ProposalRow.{ProposalRow}
 use Rattle.desk_history.specs.declared.write.Write.TheVariants as writes

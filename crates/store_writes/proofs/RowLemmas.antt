@@ -8,11 +8,11 @@ use Rattle.store_sql.proofs.ValueLemmas.{cast_null, cast_int}
 use Rattle.store_schema.specs.Columns.{values_of}
 use Rattle.store_schema.specs.Tables as tables
 use Rattle.sbat.specs.declared.component.Component.{Component}
-use Rattle.desk_texts.specs.declared.command.Person.{Person}
-use Rattle.desk_texts.specs.Callers.{caller_name}
-use Rattle.desk_texts.specs.ReplyTexts.{reply_text_of}
-use Rattle.desk_texts.specs.Words.{proposal_kind_text, proposal_state_text, state_text}
-use Rattle.desk_texts.specs.declared.proposal.ItemKind.{ItemKind}
+use Rattle.desk_types.specs.declared.command.Person.{Person}
+use Rattle.desk_types.specs.Callers.{caller_name}
+use Rattle.desk_types.specs.ReplyTexts.{reply_text_of}
+use Rattle.desk_types.specs.Words.{proposal_kind_text, proposal_state_text, state_text}
+use Rattle.desk_types.specs.declared.proposal.ItemKind.{ItemKind}
 use Rattle.desk_history.specs.declared.rows.Entry.{Entry}
 use Rattle.desk_history.specs.declared.rows.Minute.{Minute}
 use Rattle.desk_history.specs.declared.rows.ProposalRow.{ProposalRow}

@@ -9,8 +9,8 @@ use Rattle.sqlite.specs.Held.{Held}
 use Rattle.store_sql.specs.Contents.{Contents, change_at, no_rows}
 use Rattle.store_sql.specs.States.{Changes, DoesInside, Moves, Turns}
 use Rattle.store_schema.specs.Tables.{desk_layout, desk_schema}
-use Rattle.desk_texts.specs.declared.proposal.ItemKind.{ItemKind}
-use Rattle.desk_texts.specs.Words.{item_kind_text}
+use Rattle.desk_types.specs.declared.proposal.ItemKind.{ItemKind}
+use Rattle.desk_types.specs.Words.{item_kind_text}
 use Rattle.desk_history.specs.declared.rows.ProposalItemRow.{ProposalItemRow}
 use Rattle.desk_history.specs.Tables.{Tables, tables}
 use Rattle.store_schema.specs.rows.Contents.{contents}
@@ -31,8 +31,8 @@ abbrev pub unmigrated : List ℕ → Tables
 unmigrated owner = record (tables owner []) { migrated = [] }
 
 -- after a success in tables without rows, they hold these
-abbrev pub Founds : {S X E : Type 0} → Ghosts S → Held S → Held S → Result X E → Tables → Type 0
-Founds g old new result t =
+abbrev pub MakesDesk : {S X E : Type 0} → Ghosts S → Held S → Held S → Result X E → Tables → Type 0
+MakesDesk g old new result t =
     DoesInside g old new result (λ _ before after. Turns desk_layout (λ (_ : ⊤). no_rows desk_schema.tables) (λ _. contents t) before after)
 
 -- the tables with the row that says how many calls were accepted by the first rules

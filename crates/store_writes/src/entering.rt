@@ -5,12 +5,12 @@ ghost use Rattle.desk_history.specs.declared.write.Write.TheVariants as writes;
 ghost use Rattle.store_sql.specs.Effects.{Inserts};
 ghost use Rattle.store_sql.specs.States.{CommitsNothing, DoesInside, Spares, StaysInside};
 ghost use Rattle.store_writes.specs.Founding.{PutsDesk, migrated_params, own_params};
-ghost use Rattle.store_writes.specs.Steps.{Begins, Founds, Steps, unmigrated, with_migrated};
+ghost use Rattle.store_writes.specs.Steps.{Begins, MakesDesk, Steps, unmigrated, with_migrated};
 
 use crate::stored::integer_value;
-use desk_bytes::Guid;
+use base::Guid;
 use desk_history::Minute;
-use desk_texts::{Person, reply_text};
+use desk_types::{Person, reply_text};
 use sbat::{Component, Stamp};
 use sqlite::{Alter, Transaction, params};
 use std::alloc::Global;
@@ -22,7 +22,7 @@ use store_sql::{StoreFault, insert};
 /// Inserts the desk's own row into tables without rows: its stamp is that of shim's first level.
 fn put_own<S: Alter>(tx: &mut Transaction<'_, S>, owner: &Guid) -> Result<(), StoreFault>
     ensures same_reference { tx.new.conn.ghost_name ≡ tx.old.conn.ghost_name }
-    ensures value { Founds S.Store tx.old.conn.now tx.new.conn.now result (unmigrated owner.now) }
+    ensures value { MakesDesk S.Store tx.old.conn.now tx.new.conn.now result (unmigrated owner.now) }
     ensures puts { DoesInside S.Store tx.old.conn.now tx.new.conn.now result
         (λ _. Inserts INSERT_DESK.now (own_params owner.now)) }
     ensures inside { StaysInside S.Store tx.old.conn.now tx.new.conn.now result }

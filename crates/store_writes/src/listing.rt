@@ -1,14 +1,14 @@
 //! Listed entries and revoked digests.
 ghost use Rattle.std.specs.Prelude.{◌≡◌};
 ghost use Rattle.desk_history.specs.declared.write.Write.TheVariants as writes;
-ghost use Rattle.desk_texts.specs.declared.kind.ListedKind.TheVariants as kinds;
+ghost use Rattle.desk_types.specs.declared.kind.ListedKind.TheVariants as kinds;
 ghost use Rattle.desk_history.specs.Writes.{with_revoked, written};
 ghost use Rattle.store_sql.specs.States.{CommitsNothing, Spares, StaysInside};
 ghost use Rattle.store_writes.specs.Steps.{Steps};
 
-use desk_bytes::Digest;
+use base::Digest;
 use desk_history::Entry;
-use desk_texts::{ListedKind, Listing};
+use desk_types::{ListedKind, Listing};
 use sqlite::{Alter, Transaction, params};
 use store_schema::{
     DELETE_LISTED, INSERT_LISTED, INSERT_REVOKED_CERTIFICATE, INSERT_REVOKED_DIGEST,

@@ -11,7 +11,7 @@ ghost use Rattle.store_writes.specs.Steps.{AddsItem, Steps, contents_with, item_
 
 use crate::stored::integer_value;
 use desk_history::ProposalRow;
-use desk_texts::{Import, ItemKind, ProposalNumber};
+use desk_types::{Import, ItemKind, ProposalNumber};
 use sbat::Stamp;
 use sqlite::{Alter, Transaction, params};
 use store_schema::{INSERT_PROPOSAL, INSERT_PROPOSAL_ITEM};

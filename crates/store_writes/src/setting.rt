@@ -6,7 +6,7 @@ ghost use Rattle.store_sql.specs.States.{CommitsNothing, Spares, StaysInside};
 ghost use Rattle.store_writes.specs.Steps.{Steps, with_version};
 
 use crate::stored::integer_value;
-use desk_texts::{Outcome, ProposalOutcome};
+use desk_types::{Outcome, ProposalOutcome};
 use sbat::{Component, Stamp};
 use sqlite::{Alter, Transaction, params};
 use store_schema::{

@@ -1,15 +1,15 @@
 //! A substitute for a desk, which records its calls and answers everybody the same.
 ghost use Rattle.std.specs.Prelude.{◌≡◌, ◌⊎◌, ⊤, IfSome, IsTrue, true};
-ghost use Rattle.desk_calls.specs.Desks.{IsOutage};
+ghost use Rattle.http_calls.specs.Desks.{IsOutage};
 ghost use Rattle.desk_exports.specs.Readings.{may_refuse};
 ghost use Rattle.desk_history.specs.DecisionRefusals.{may_answer};
 
-use desk_bytes::{Digest, Refusal};
-use desk_calls::Answering;
+use base::{Digest, Refusal};
+use http_calls::AnswersCalls;
 use desk_exports::{Octets, Reading, Shown, ShownPeople, ShownProposals};
-use desk_history::{BarredImage, File, ProposalRow, Rule, ShownImpact, ShownPerson, Verdict};
-use desk_service::token_digest;
-use desk_texts::{
+use desk_history::{BarredImage, WhichFile, ProposalRow, Rule, ShownImpact, ShownPerson, Verdict};
+use desk_inputs::token_digest;
+use desk_types::{
     Caller, Carried, Command, Confirmation, Counts, Facts, Import, Key, Outcome, Person,
     PersonName, Proposal, ProposalKind, ProposalNumber, ProposalState, Reply, RequestNumber, Role,
     ShownRequest, ShownVotes, State, Title, command_text,
@@ -188,7 +188,7 @@ fn whole(alloc: Global, number: ProposalNumber) -> Option<ProposalRow> {
 fn barred(alloc: Global) -> Option<BarredImage> {
     Some(BarredImage {
         request: RequestNumber::new(1)?,
-        file: File::Returned,
+        file: WhichFile::Returned,
         state: State::Signed,
         submitter: PersonName::parse(alloc, b"ann").ok()?,
         title: Title::parse(alloc, b"Boot loader").ok()?,
@@ -289,7 +289,7 @@ fn refused(reading: &Reading) -> Option<Refusal>
     }
 }
 
-impl Answering for StandIn {
+impl AnswersCalls for StandIn {
     ghost shows = { λ _ _ _. ⊥ };
 
     ghost clean = { λ _. ⊤ };

@@ -11,7 +11,7 @@ mod packing;
 mod rules;
 mod words;
 
-use desk_bytes::Refusal;
+use base::Refusal;
 use std::alloc::Global;
 use std::fmt::Write;
 use std::io::ErrorKind;

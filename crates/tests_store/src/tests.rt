@@ -1,8 +1,8 @@
 //! Desks over stores in memory, played by the lines of scripts.
-use desk_bytes::{Digest, Guid, Refusal};
+use base::{Digest, Guid, Refusal};
 use desk_rules::{View, decide};
-use desk_store::{Desk, Waits};
-use desk_texts::{Call, Caller, Facts, Person, Proposal, Reply, ShownRequest, reply_text};
+use store_desk::{Desk, Waits};
+use desk_types::{Call, Caller, Facts, Person, Proposal, Reply, ShownRequest, reply_text};
 use itoa::Buffer;
 use sbat::Component;
 use sqlite::{Alter, Connection, MemStore};

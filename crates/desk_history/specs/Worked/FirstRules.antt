@@ -1,9 +1,9 @@
 -- A desk with one officer, which gets a second.
 use Rattle.std.specs.Prelude.{◌≡◌, true, false, List, [], ◌∷◌, map, codes}
-use Rattle.desk_bytes.specs.declared.refusal.Refusal.TheVariants as refusals
-use Rattle.desk_texts.specs.declared.command.Call.{Call}
-use Rattle.desk_texts.specs.declared.command.Command.TheVariants as command
-use Rattle.desk_texts.specs.declared.reply.Reply.TheVariants as replies
+use Rattle.base.specs.declared.refusal.Refusal.TheVariants as refusals
+use Rattle.desk_types.specs.declared.command.Call.{Call}
+use Rattle.desk_types.specs.declared.command.Command.TheVariants as command
+use Rattle.desk_types.specs.declared.reply.Reply.TheVariants as replies
 use Rattle.desk_history.specs.Calls.{First, History, item, under}
 use Rattle.desk_history.specs.Runs.{answers, answers_by, is_legal, run, run_by}
 use Rattle.desk_history.specs.Tables.{MigratedRow, tables}

@@ -1,15 +1,15 @@
 -- The impact of an import that names a digest, a certificate and a component: four requests, of
 -- which each is barred for another reason, one of them before.
 use Rattle.std.specs.Prelude.{◌≡◌, true, false, List, [], ◌∷◌, ◌++◌, codes, Some, Ok}
-use Rattle.desk_texts.specs.declared.command.Command.{Command}
-use Rattle.desk_texts.specs.declared.command.Command.TheVariants as command
-use Rattle.desk_texts.specs.declared.facts.Facts.{Facts}
-use Rattle.desk_texts.specs.declared.reply.Reply.TheVariants as replies
-use Rattle.desk_texts.specs.declared.state.State.TheVariants as states
-use Rattle.desk_texts.specs.declared.vote.Vote.TheVariants.{Yes}
+use Rattle.desk_types.specs.declared.command.Command.{Command}
+use Rattle.desk_types.specs.declared.command.Command.TheVariants as command
+use Rattle.desk_types.specs.declared.facts.Facts.{Facts}
+use Rattle.desk_types.specs.declared.reply.Reply.TheVariants as replies
+use Rattle.desk_types.specs.declared.state.State.TheVariants as states
+use Rattle.desk_types.specs.declared.vote.Vote.TheVariants.{Yes}
 use Rattle.desk_history.specs.Calls.{History, item}
 use Rattle.desk_history.specs.Images.{images}
-use Rattle.desk_history.specs.declared.impact.File.TheVariants as files
+use Rattle.desk_history.specs.declared.impact.WhichFile.TheVariants as files
 use Rattle.desk_history.specs.declared.impact.Rule.TheVariants as rules
 use Rattle.desk_history.specs.Impact.{NewlyBarred, impact}
 use Rattle.desk_history.specs.Runs.{answers, run}

@@ -1,10 +1,10 @@
 -- A key that is given again.
 use Rattle.std.specs.Prelude.{◌≡◌, List, [], ◌∷◌, length, codes}
-use Rattle.desk_bytes.specs.declared.refusal.Refusal.TheVariants as refusals
-use Rattle.desk_texts.specs.declared.command.Command.TheVariants as command
-use Rattle.desk_texts.specs.declared.caller.Caller.TheVariants as callers
-use Rattle.desk_texts.specs.declared.reply.Reply.TheVariants as replies
-use Rattle.desk_texts.specs.declared.role.Role.TheVariants as roles
+use Rattle.base.specs.declared.refusal.Refusal.TheVariants as refusals
+use Rattle.desk_types.specs.declared.command.Command.TheVariants as command
+use Rattle.desk_types.specs.declared.caller.Caller.TheVariants as callers
+use Rattle.desk_types.specs.declared.reply.Reply.TheVariants as replies
+use Rattle.desk_types.specs.declared.role.Role.TheVariants as roles
 use Rattle.desk_history.specs.Calls.{History, item}
 use Rattle.desk_history.specs.Requests.{requests}
 use Rattle.desk_history.specs.Runs.{answers, run}

@@ -1,15 +1,15 @@
 -- Proposals by one officer, and Confirms by another.
 use Rattle.std.specs.Prelude.{◌≡◌, ℕ, List, [], ◌∷◌, map, codes, Ok, Err, Result}
-use Rattle.desk_bytes.specs.declared.refusal.Refusal.{Refusal}
-use Rattle.desk_bytes.specs.declared.refusal.Refusal.TheVariants as refusals
+use Rattle.base.specs.declared.refusal.Refusal.{Refusal}
+use Rattle.base.specs.declared.refusal.Refusal.TheVariants as refusals
 use Rattle.std.specs.Result.{result_map_both}
-use Rattle.desk_texts.specs.declared.caller.Caller.TheVariants as callers
-use Rattle.desk_texts.specs.declared.command.Call.{Call}
-use Rattle.desk_texts.specs.declared.command.Command.{Command}
-use Rattle.desk_texts.specs.declared.command.Command.TheVariants as command
-use Rattle.desk_texts.specs.declared.proposal.Proposal.{Proposal as ShownProposal}
-use Rattle.desk_texts.specs.declared.proposal.ProposalState.TheVariants as states
-use Rattle.desk_texts.specs.declared.reply.Reply.TheVariants as replies
+use Rattle.desk_types.specs.declared.caller.Caller.TheVariants as callers
+use Rattle.desk_types.specs.declared.command.Call.{Call}
+use Rattle.desk_types.specs.declared.command.Command.{Command}
+use Rattle.desk_types.specs.declared.command.Command.TheVariants as command
+use Rattle.desk_types.specs.declared.proposal.Proposal.{Proposal as ShownProposal}
+use Rattle.desk_types.specs.declared.proposal.ProposalState.TheVariants as states
+use Rattle.desk_types.specs.declared.reply.Reply.TheVariants as replies
 use Rattle.desk_history.specs.Calls.{History, item}
 use Rattle.desk_history.specs.Level.{stamp}
 use Rattle.desk_history.specs.Runs.{answers, run}

@@ -1,14 +1,14 @@
 -- The signed file of a request, returned, and its certificate, listed, revoked and taken off the
 -- list.
 use Rattle.std.specs.Prelude.{◌≡◌, ℕ, List, [], ◌∷◌, ◌++◌, map, codes}
-use Rattle.desk_bytes.specs.declared.refusal.Refusal.TheVariants as refusals
-use Rattle.desk_texts.specs.declared.command.Command.{Command}
-use Rattle.desk_texts.specs.declared.command.Command.TheVariants as command
-use Rattle.desk_texts.specs.declared.facts.Facts.{Facts}
-use Rattle.desk_texts.specs.declared.kind.ListedKind.TheVariants as kinds
-use Rattle.desk_texts.specs.declared.reply.Reply.TheVariants as replies
-use Rattle.desk_texts.specs.declared.state.State.TheVariants as states
-use Rattle.desk_texts.specs.declared.vote.Vote.TheVariants.{Yes}
+use Rattle.base.specs.declared.refusal.Refusal.TheVariants as refusals
+use Rattle.desk_types.specs.declared.command.Command.{Command}
+use Rattle.desk_types.specs.declared.command.Command.TheVariants as command
+use Rattle.desk_types.specs.declared.facts.Facts.{Facts}
+use Rattle.desk_types.specs.declared.kind.ListedKind.TheVariants as kinds
+use Rattle.desk_types.specs.declared.reply.Reply.TheVariants as replies
+use Rattle.desk_types.specs.declared.state.State.TheVariants as states
+use Rattle.desk_types.specs.declared.vote.Vote.TheVariants.{Yes}
 use Rattle.desk_history.specs.Calls.{History, item}
 use Rattle.desk_history.specs.Requests.{state}
 use Rattle.desk_history.specs.Runs.{answers, run}

@@ -1,10 +1,10 @@
 -- A request that is reviewed, and another one that is rejected.
 use Rattle.std.specs.Prelude.{◌≡◌, List, [], ◌∷◌, map, codes}
-use Rattle.desk_bytes.specs.declared.refusal.Refusal.TheVariants as refusals
-use Rattle.desk_texts.specs.declared.facts.Facts.{Facts}
-use Rattle.desk_texts.specs.declared.reply.Reply.TheVariants as replies
-use Rattle.desk_texts.specs.declared.state.State.TheVariants as states
-use Rattle.desk_texts.specs.declared.vote.Vote.TheVariants.{No, Yes}
+use Rattle.base.specs.declared.refusal.Refusal.TheVariants as refusals
+use Rattle.desk_types.specs.declared.facts.Facts.{Facts}
+use Rattle.desk_types.specs.declared.reply.Reply.TheVariants as replies
+use Rattle.desk_types.specs.declared.state.State.TheVariants as states
+use Rattle.desk_types.specs.declared.vote.Vote.TheVariants.{No, Yes}
 use Rattle.desk_history.specs.Calls.{History, item}
 use Rattle.desk_history.specs.Runs.{answers, run}
 use Rattle.desk_history.specs.Tables.{Tables, tables}

@@ -1,10 +1,10 @@
 -- Proposals beside an import that is confirmed, and the import as officers are shown it.
 use Rattle.std.specs.Prelude.{◌≡◌, List, [], ◌∷◌, codes, Some, Ok, Err}
-use Rattle.desk_bytes.specs.declared.refusal.Refusal.TheVariants as refusals
-use Rattle.desk_texts.specs.declared.caller.Caller.TheVariants as callers
-use Rattle.desk_texts.specs.declared.command.Command.TheVariants as command
-use Rattle.desk_texts.specs.declared.proposal.ProposalKind.TheVariants as kinds
-use Rattle.desk_texts.specs.declared.proposal.ProposalState.TheVariants as states
+use Rattle.base.specs.declared.refusal.Refusal.TheVariants as refusals
+use Rattle.desk_types.specs.declared.caller.Caller.TheVariants as callers
+use Rattle.desk_types.specs.declared.command.Command.TheVariants as command
+use Rattle.desk_types.specs.declared.proposal.ProposalKind.TheVariants as kinds
+use Rattle.desk_types.specs.declared.proposal.ProposalState.TheVariants as states
 use Rattle.desk_history.specs.Calls.{History}
 use Rattle.desk_history.specs.Impact.{impact}
 use Rattle.desk_history.specs.ProposalShown.{proposal_for}

@@ -1,10 +1,10 @@
 -- Answers to people about two requests: ann's, which was signed, and rita's, which was rejected.
 use Rattle.std.specs.Prelude.{◌≡◌, ℕ, List, [], ◌∷◌, codes, Some, None, Ok, Err}
-use Rattle.desk_bytes.specs.declared.refusal.Refusal.TheVariants as refusals
-use Rattle.desk_texts.specs.declared.caller.Caller.{Caller}
-use Rattle.desk_texts.specs.declared.caller.Caller.TheVariants as callers
-use Rattle.desk_texts.specs.declared.state.State.TheVariants as states
-use Rattle.desk_texts.specs.declared.vote.Vote.TheVariants.{No, Yes}
+use Rattle.base.specs.declared.refusal.Refusal.TheVariants as refusals
+use Rattle.desk_types.specs.declared.caller.Caller.{Caller}
+use Rattle.desk_types.specs.declared.caller.Caller.TheVariants as callers
+use Rattle.desk_types.specs.declared.state.State.TheVariants as states
+use Rattle.desk_types.specs.declared.vote.Vote.TheVariants.{No, Yes}
 use Rattle.desk_history.specs.Shown.{Whole, request_for, requests_for}
 use Rattle.desk_history.specs.Worked.Returns.{after_return, signed}
 use Rattle.desk_history.specs.Worked.Reviews.{a}

@@ -1,8 +1,8 @@
 //! Decisions by the first rules: what a command names is put into force at once.
 ghost use Rattle.std.specs.Prelude.{◌≡◌, IfErr, IsTrue, Some};
-ghost use Rattle.desk_texts.specs.declared.caller.Caller.{Caller as CallerValue};
-ghost use Rattle.desk_texts.specs.declared.command.Command.{Command as CommandValue};
-ghost use Rattle.desk_texts.specs.declared.command.Command.TheVariants as Command;
+ghost use Rattle.desk_types.specs.declared.caller.Caller.{Caller as CallerValue};
+ghost use Rattle.desk_types.specs.declared.command.Command.{Command as CommandValue};
+ghost use Rattle.desk_types.specs.declared.command.Command.TheVariants as Command;
 ghost use Rattle.desk_history.specs.DecisionRefusals.{may_answer};
 ghost use Rattle.desk_history.specs.Proposals.{named_by};
 ghost use Rattle.desk_rules.specs.FirstSteps as spec;
@@ -10,8 +10,8 @@ ghost use Rattle.desk_rules.specs.FirstSteps as spec;
 use super::decide_own;
 use super::imports::put_named;
 use crate::view::{Changes, View};
-use desk_bytes::{Digest, Refusal};
-use desk_texts::{Caller, Command, Counts, Import, ProposalKind, Raise, Reply};
+use base::{Digest, Refusal};
+use desk_types::{Caller, Command, Counts, Import, ProposalKind, Raise, Reply};
 use std::alloc::Global;
 
 /// The reply to a command of this kind, of which these are the counts.

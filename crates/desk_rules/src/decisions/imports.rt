@@ -4,7 +4,7 @@ ghost use Rattle.std.specs.FinMap.{get};
 ghost use Rattle.sbat.specs.declared.component.Component.{Component as ComponentValue};
 ghost use Rattle.desk_history.specs.Calls.{is_among};
 ghost use Rattle.desk_history.specs.Level.{greatest, is_sbat as sbat_name};
-ghost use Rattle.desk_texts.specs.Raising.{names_no_sbat};
+ghost use Rattle.desk_types.specs.Raising.{names_no_sbat};
 ghost use Rattle.desk_rules.specs.DecisionSteps.{revocation_writes};
 ghost use Rattle.desk_history.specs.declared.write.Write.TheVariants as puts;
 ghost use Rattle.desk_rules.specs.Foreseen.{may_foresee};
@@ -14,9 +14,9 @@ ghost use Rattle.desk_rules.specs.Views.{generation_in};
 use super::level::put;
 use super::push;
 use crate::view::View;
-use desk_bytes::{Digest, Refusal};
+use base::{Digest, Refusal};
 use desk_history::{Write, is_above};
-use desk_texts::{
+use desk_types::{
     Counts, Import, ListedKind, Listing, ProposalKind, ProposalNumber, ProposalOutcome,
     ProposalState,
 };

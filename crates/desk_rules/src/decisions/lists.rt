@@ -8,9 +8,9 @@ ghost use Rattle.desk_rules.specs.Views.{seen_standing};
 use super::one_write;
 use crate::rows::{certificate_entry, digest_entry};
 use crate::view::{Changes, View};
-use desk_bytes::{Digest, Refusal};
+use base::{Digest, Refusal};
 use desk_history::{Standing, Write};
-use desk_texts::{Certificate, ListedKind, Listing, Reply};
+use desk_types::{Certificate, ListedKind, Listing, Reply};
 use std::alloc::Global;
 
 /// Lists the image of this digest.

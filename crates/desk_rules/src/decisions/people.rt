@@ -5,13 +5,13 @@ ghost use Rattle.desk_history.specs.People as spec;
 ghost use Rattle.desk_rules.specs.DecisionSteps.{Decided};
 ghost use Rattle.desk_history.specs.Refusals.{add_refusal as refusal_of, is_one_of, is_theirs};
 ghost use Rattle.desk_history.specs.declared.write.Write.TheVariants.{Person as PutPerson};
-ghost use Rattle.desk_texts.specs.declared.reply.Reply.TheVariants.{Added};
+ghost use Rattle.desk_types.specs.declared.reply.Reply.TheVariants.{Added};
 
 use super::one_write;
 use crate::view::{Changes, View};
-use desk_bytes::{Digest, Refusal};
+use base::{Digest, Refusal};
 use desk_history::{Write, is_for, is_for_console, refuse_if};
-use desk_texts::{Caller, Command, Person, PersonName, Reply};
+use desk_types::{Caller, Command, Person, PersonName, Reply};
 use std::alloc::Global;
 
 impl View {

@@ -1,11 +1,11 @@
 //! Proposals to revoke and to raise the level, and their confirmation.
 ghost use Rattle.std.specs.Prelude.{◌≡◌, ◌≤◌, ◌+◌, [], ◌∷◌, IfErr, IsTrue, MatchOption, Some, find, option_copied};
 ghost use Rattle.std.specs.List.{list_any};
-ghost use Rattle.desk_texts.specs.Callers.{caller_name};
-ghost use Rattle.desk_texts.specs.Forms.{greatest_number};
-ghost use Rattle.desk_texts.specs.declared.command.Command.{Command as CommandValue};
-ghost use Rattle.desk_texts.specs.declared.command.Command.TheVariants as Command;
-ghost use Rattle.desk_texts.specs.declared.reply.Reply.TheVariants as replies;
+ghost use Rattle.desk_types.specs.Callers.{caller_name};
+ghost use Rattle.desk_types.specs.Forms.{greatest_number};
+ghost use Rattle.desk_types.specs.declared.command.Command.{Command as CommandValue};
+ghost use Rattle.desk_types.specs.declared.command.Command.TheVariants as Command;
+ghost use Rattle.desk_types.specs.declared.reply.Reply.TheVariants as replies;
 ghost use Rattle.desk_history.specs.DecisionRefusals.{may_answer};
 ghost use Rattle.desk_history.specs.Proposals.{named_by};
 ghost use Rattle.desk_history.specs.declared.write.Write.TheVariants as puts;
@@ -19,11 +19,11 @@ use super::imports::{Enforced, enforce, put_named, take_named};
 use super::one_write;
 use crate::rows::open_proposal;
 use crate::view::{Changes, View};
-use desk_bytes::{Digest, Refusal};
+use base::{Digest, Refusal};
 use desk_history::{
     ProposalRow, Standing, Write, confirm_by, drop_by, is_above, is_later, refuse_if,
 };
-use desk_texts::{
+use desk_types::{
     Caller, Confirmation, GREATEST_NUMBER, Import, ListedKind, ProposalKind, ProposalNumber,
     ProposalOutcome, ProposalState, Raise, Reply,
 };

@@ -1,19 +1,19 @@
 //! Votes on requests, withdrawals and returned files.
 ghost use Rattle.std.specs.Prelude.{◌≡◌, [], ◌∷◌, count_by, find, not, option_copied};
 ghost use Rattle.std.specs.List.{list_any};
-ghost use Rattle.desk_texts.specs.Callers.{caller_name};
+ghost use Rattle.desk_types.specs.Callers.{caller_name};
 ghost use Rattle.desk_history.specs.Requests.{is_vote_of, is_yes, votes_on};
 ghost use Rattle.desk_rules.specs.DecisionSteps as spec;
 ghost use Rattle.desk_rules.specs.Shown.{is_request_row};
-ghost use Rattle.desk_texts.specs.declared.reply.Reply.TheVariants as replies;
+ghost use Rattle.desk_types.specs.declared.reply.Reply.TheVariants as replies;
 ghost use Rattle.desk_history.specs.declared.write.Write.TheVariants as puts;
 
 use super::{one_write, two_writes};
 use crate::rows::{return_row, vote_row};
 use crate::view::{Changes, View};
-use desk_bytes::Refusal;
+use base::Refusal;
 use desk_history::{RequestRow, VoteRow, Write, image_refusal, return_by, review_by, withdraw_by};
-use desk_texts::{Ballot, Caller, Outcome, Reply, RequestNumber, ReturnedFile, State, Vote};
+use desk_types::{Ballot, Caller, Outcome, Reply, RequestNumber, ReturnedFile, State, Vote};
 use std::alloc::Global;
 
 /// True if the vote is a yes.

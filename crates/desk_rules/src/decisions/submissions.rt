@@ -1,7 +1,7 @@
 //! Submissions.
 ghost use Rattle.std.specs.Prelude.{◌≡◌, ◌++◌, IfErr, OnOk, map, reverse};
 ghost use Rattle.desk_history.specs.declared.write.Write.TheVariants as puts;
-ghost use Rattle.desk_texts.specs.declared.reply.Reply.TheVariants as replies;
+ghost use Rattle.desk_types.specs.declared.reply.Reply.TheVariants as replies;
 ghost use Rattle.desk_history.specs.Tables.{placed_from};
 ghost use Rattle.desk_rules.specs.DecisionSteps.{Decided, carried_rows, submission_writes};
 ghost use Rattle.desk_history.specs.Refusals.{refuse_if};
@@ -11,9 +11,9 @@ ghost use Rattle.desk_rules.specs.Views.{seen_standing};
 use super::push;
 use crate::rows::{open_request, request_component};
 use crate::view::{Changes, View};
-use desk_bytes::{Digest, Refusal};
+use base::{Digest, Refusal};
 use desk_history::{RequestCertificateRow, Write, bars};
-use desk_texts::{Caller, Reply, RequestNumber, Submission};
+use desk_types::{Caller, Reply, RequestNumber, Submission};
 use sbat::Component;
 use std::alloc::Global;
 

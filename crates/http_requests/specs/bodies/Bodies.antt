@@ -3,14 +3,14 @@ use Rattle.std.specs.Prelude.{◌≡◌, ℕ, ⊤, List, codes, if◌then◌else
 use Rattle.std.specs.Str.{is_utf8}
 use Rattle.serde_json.specs.Data.{Data}
 use Rattle.serde_json.specs.Read.{read}
-use Rattle.desk_bytes.specs.declared.refusal.Refusal.{Refusal}
-use Rattle.desk_bytes.specs.declared.refusal.Refusal.TheVariants as refusal
-use Rattle.desk_texts.specs.declared.command.Ballot.{Ballot}
-use Rattle.desk_texts.specs.declared.command.Explanation.{Explanation}
-use Rattle.desk_texts.specs.declared.command.Listing.{Listing}
-use Rattle.desk_texts.specs.declared.command.Raise.{Raise}
-use Rattle.desk_texts.specs.declared.vote.Vote.{Vote}
-use Rattle.desk_texts.specs.declared.kind.ListedKind.{ListedKind}
+use Rattle.base.specs.declared.refusal.Refusal.{Refusal}
+use Rattle.base.specs.declared.refusal.Refusal.TheVariants as refusal
+use Rattle.desk_types.specs.declared.command.Ballot.{Ballot}
+use Rattle.desk_types.specs.declared.command.Explanation.{Explanation}
+use Rattle.desk_types.specs.declared.command.Listing.{Listing}
+use Rattle.desk_types.specs.declared.command.Raise.{Raise}
+use Rattle.desk_types.specs.declared.vote.Vote.{Vote}
+use Rattle.desk_types.specs.declared.kind.ListedKind.{ListedKind}
 use Rattle.http_requests.specs.bodies.Forms.{digest_in, vote_in, kind_in, note_in, reason_in, name_in, generation_in, stamp_in}
 use Rattle.http_requests.specs.bodies.Members.{one_of, two_of, three_of}
 use Rattle.http_requests.specs.declared.bodies.fault.BodyFault.{BodyFault}

@@ -3,13 +3,13 @@ use Rattle.std.specs.Prelude.{ℕ, List, bytes_eq, if◌then◌else◌, Option, 
 use Rattle.serde_json.specs.Data.{Data}
 use Rattle.serde_json.specs.Find.{as_number, as_str, as_u64}
 use Rattle.sbat.specs.Fields.{is_name, is_generation, is_stamp}
-use Rattle.desk_bytes.specs.Digests.{digest_of}
-use Rattle.desk_texts.specs.Forms.{is_note, is_reason}
-use Rattle.desk_texts.specs.Words.{vote_text, kind_text}
-use Rattle.desk_texts.specs.declared.vote.Vote.{Vote}
-use Rattle.desk_texts.specs.declared.vote.Vote.TheVariants as vote
-use Rattle.desk_texts.specs.declared.kind.ListedKind.{ListedKind}
-use Rattle.desk_texts.specs.declared.kind.ListedKind.TheVariants as kind
+use Rattle.base.specs.Digests.{digest_of}
+use Rattle.desk_types.specs.Forms.{is_note, is_reason}
+use Rattle.desk_types.specs.Words.{vote_text, kind_text}
+use Rattle.desk_types.specs.declared.vote.Vote.{Vote}
+use Rattle.desk_types.specs.declared.vote.Vote.TheVariants as vote
+use Rattle.desk_types.specs.declared.kind.ListedKind.{ListedKind}
+use Rattle.desk_types.specs.declared.kind.ListedKind.TheVariants as kind
 
 -- the digest that a text of 64 hexadecimal digits of either case spells
 abbrev pub digest_in : Data → Option (List ℕ)

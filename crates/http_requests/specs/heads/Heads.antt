@@ -8,8 +8,8 @@ use Rattle.http_requests.specs.heads.Limits.{HasFewFields, most_bytes, most_fiel
 use Rattle.http_requests.specs.heads.Parsed.{IsParsed}
 use Rattle.http_requests.specs.declared.heads.head_reading.Look.{Look}
 use Rattle.http_requests.specs.declared.heads.head_reading.Look.TheVariants.{Whole, Open, Never}
-use Rattle.http_requests.specs.declared.heads.begun.Begun.{Begun}
-use Rattle.http_requests.specs.declared.heads.begun.Begun.TheVariants.{Nothing, Head, NoHead}
+use Rattle.http_requests.specs.declared.heads.begun.HeadRead.{HeadRead}
+use Rattle.http_requests.specs.declared.heads.begun.HeadRead.TheVariants.{Nothing, Head, NoHead}
 
 -- b begins with the head h of httparse's default grammar, within the limits, and continues with
 -- rest
@@ -24,7 +24,7 @@ HasNoHead b = (h : RequestHead) (rest : List ℕ) → ¬ (HasHead b h rest)
 
 -- the front of the input b: nothing at all; a head, after which `left` remains to be read; or no
 -- head
-abbrev pub Finds : List ℕ → Option (List ℕ) → Begun → Type 0
+abbrev pub Finds : List ℕ → Option (List ℕ) → HeadRead → Type 0
 Finds b left Nothing = b ≡ []
 Finds b left (Head taken) =
     (h : RequestHead) × (rest : List ℕ)
@@ -32,7 +32,7 @@ Finds b left (Head taken) =
 Finds b left NoHead = (b ≢ []) × HasNoHead b
 
 -- the same, where the reader's bytes are known
-abbrev pub FindsOf : Option (List ℕ) → Option (List ℕ) → Begun → Type 0
+abbrev pub FindsOf : Option (List ℕ) → Option (List ℕ) → HeadRead → Type 0
 FindsOf None left begun = ⊤
 FindsOf (Some b) left begun = Finds b left begun
 

@@ -8,8 +8,8 @@ use crate::bodies::members::{one_member, three_members, two_members};
 use crate::bodies::values::{
     component, digest, generation, kind, note, parse, reason, stamp, vote,
 };
-use desk_bytes::Digest;
-use desk_texts::{Ballot, Explanation, Listing, ProposalNumber, Raise, RequestNumber};
+use base::Digest;
+use desk_types::{Ballot, Explanation, Listing, ProposalNumber, Raise, RequestNumber};
 use sbat::Component;
 use serde_json::Value;
 use std::alloc::Global;

@@ -5,8 +5,8 @@ ghost use Rattle.http_requests.specs.bodies.Bodies.{Refuses, data_of};
 ghost use Rattle.http_requests.specs.bodies.Forms as form;
 
 use crate::BodyFault;
-use desk_bytes::Digest;
-use desk_texts::{ListedKind, Note, Reason, TextFault, Vote};
+use base::Digest;
+use desk_types::{ListedKind, Note, Reason, TextFault, Vote};
 use sbat::{ComponentName, Generation, NameFault, Stamp};
 use serde_json::Value;
 use std::alloc::Global;

@@ -3,7 +3,7 @@ use crate::ParsedHead;
 
 /// What the input of a connection begins with.
 #[derive(Debug, Drop)]
-pub enum Begun {
+pub enum HeadRead {
     /// It has no byte.
     Nothing,
     /// The head of a request: its bytes are those from the input's first to the LF of the empty

@@ -1,10 +1,10 @@
 //! A body of a known length.
 ghost use Rattle.std.specs.Prelude.{◌<◌, ◌≤◌, length, take, IfErr, IfOk, OnErr};
 ghost use Rattle.std.specs.Io.KnownBytes.{Consumes, IsAtEnd};
-ghost use Rattle.desk_bytes.specs.Watches.{HasCause, HasFailed};
+ghost use Rattle.base.specs.Watches.{HasCause, HasFailed};
 ghost use Rattle.http_requests.specs.heads.Bodies.{TakesBody};
 
-use desk_bytes::{InputFault, ReadFailed, Watch, read_up_to};
+use base::{InputFault, ReadFailed, Watch, read_up_to};
 use std::alloc::Global;
 use std::io::Read;
 

@@ -1,12 +1,12 @@
 //! The head of a request, read byte by byte.
 ghost use Rattle.std.specs.Prelude.{◌≡◌, ◌&&◌, IfErr, IfOk};
-ghost use Rattle.desk_bytes.specs.Watches.{HasCause};
+ghost use Rattle.base.specs.Watches.{HasCause};
 ghost use Rattle.http_requests.specs.heads.Heads as spec;
 ghost use Rattle.http_requests.specs.heads.Heads.{FindsOf, Looks, TakesByte};
 
 use crate::heads::head_spans::HeadSpans;
-use crate::{Begun, ParsedHead};
-use desk_bytes::{InputFault, ReadFailed, Watch};
+use crate::{HeadRead, ParsedHead};
+use base::{InputFault, ReadFailed, Watch};
 use httparse::Status;
 use httparse::spans::{EMPTY_HEADER_SPAN, parse_request};
 use std::alloc::Global;
@@ -91,7 +91,7 @@ pub fn read_head<R: Read>(
     alloc: Global,
     reader: &mut R,
     watch: &mut Watch,
-) -> Result<Begun, InputFault>
+) -> Result<HeadRead, InputFault>
     ensures found { IfOk result (FindsOf (R.remaining reader.old) (R.remaining reader.new)) }
     ensures device { IfErr result (HasCause watch.new) }
 {
@@ -101,9 +101,9 @@ pub fn read_head<R: Read>(
     while taken.len() < MOST_BYTES {
         let Some(byte) = read_byte(reader, watch)? else {
             return Ok(if taken.is_empty() {
-                Begun::Nothing
+                HeadRead::Nothing
             } else {
-                Begun::NoHead
+                HeadRead::NoHead
             });
         };
         if taken.push(byte).is_err() {
@@ -113,11 +113,11 @@ pub fn read_head<R: Read>(
         if may_end_head(taken.as_slice(), blank, begun) {
             begun = true;
             match examine(taken.as_slice()) {
-                Look::Whole(spans) => return Ok(Begun::Head(ParsedHead::new(taken, spans))),
+                Look::Whole(spans) => return Ok(HeadRead::Head(ParsedHead::new(taken, spans))),
                 Look::Open => {}
-                Look::Never => return Ok(Begun::NoHead),
+                Look::Never => return Ok(HeadRead::NoHead),
             }
         }
     }
-    Ok(Begun::NoHead)
+    Ok(HeadRead::NoHead)
 }

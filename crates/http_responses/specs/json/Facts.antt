@@ -1,7 +1,7 @@
 -- own: the facts of an image in JSON, the keys ascending.
 use Rattle.std.specs.Prelude.{[], ◌∷◌, codes}
 use Rattle.serde_json.specs.Data.{Data}
-use Rattle.desk_texts.specs.declared.facts.Facts.{Facts}
+use Rattle.desk_types.specs.declared.facts.Facts.{Facts}
 use Rattle.http_responses.specs.json.Values.{object_from, whole, digest_data, digests_data, components_data}
 
 -- facts

@@ -1,7 +1,7 @@
 -- The text of an impact, in the pieces in which it is written.
 use Rattle.std.specs.Prelude.{ℕ, List, ◌++◌, codes, decimal}
 use Rattle.serde_json.specs.Written.{compact_text}
-use Rattle.desk_texts.specs.declared.reply.Counts.{Counts}
+use Rattle.desk_types.specs.declared.reply.Counts.{Counts}
 use Rattle.http_responses.specs.json.Impacts.{adds_data}
 
 -- before its images

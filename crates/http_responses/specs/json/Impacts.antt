@@ -2,8 +2,8 @@
 use Rattle.std.specs.Prelude.{ℕ, List, [], ◌∷◌, codes, map}
 use Rattle.serde_json.specs.Data.{Data, array, boolean, string}
 use Rattle.serde_json.specs.View.{items_of}
-use Rattle.desk_texts.specs.Words.{state_text}
-use Rattle.desk_texts.specs.declared.reply.Counts.{Counts}
+use Rattle.desk_types.specs.Words.{state_text}
+use Rattle.desk_types.specs.declared.reply.Counts.{Counts}
 use Rattle.desk_history.specs.Files.{file_text}
 use Rattle.desk_history.specs.declared.impact.BarredImage.{BarredImage}
 use Rattle.desk_history.specs.declared.impact.Rule.{Rule}

@@ -1,9 +1,9 @@
 -- The members of a request, added to an object one after another.
 use Rattle.std.specs.Prelude.{codes}
 use Rattle.serde_json.specs.Data.{Members, put, string}
-use Rattle.desk_texts.specs.Words.{state_text}
-use Rattle.desk_texts.specs.declared.facts.Facts.{Facts}
-use Rattle.desk_texts.specs.declared.shown.ShownRequest.{ShownRequest}
+use Rattle.desk_types.specs.Words.{state_text}
+use Rattle.desk_types.specs.declared.facts.Facts.{Facts}
+use Rattle.desk_types.specs.declared.shown.ShownRequest.{ShownRequest}
 use Rattle.http_responses.specs.json.Values.{whole, digest_data, digests_data, components_data}
 use Rattle.http_responses.specs.json.Requests.{returned_data, votes_data}
 

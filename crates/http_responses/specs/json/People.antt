@@ -2,7 +2,7 @@
 use Rattle.std.specs.Prelude.{List, [], ◌∷◌, codes, map}
 use Rattle.serde_json.specs.Data.{Data, array, string}
 use Rattle.serde_json.specs.View.{items_of}
-use Rattle.desk_texts.specs.Words.{role_text}
+use Rattle.desk_types.specs.Words.{role_text}
 use Rattle.desk_history.specs.declared.shown_person.ShownPerson.{ShownPerson}
 use Rattle.http_responses.specs.json.Values.{object_from}
 

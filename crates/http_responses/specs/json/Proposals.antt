@@ -2,8 +2,8 @@
 use Rattle.std.specs.Prelude.{List, [], ◌∷◌, codes, map}
 use Rattle.serde_json.specs.Data.{Data, array, string}
 use Rattle.serde_json.specs.View.{items_of}
-use Rattle.desk_texts.specs.Words.{proposal_state_text}
-use Rattle.desk_texts.specs.declared.proposal.Proposal.{Proposal}
+use Rattle.desk_types.specs.Words.{proposal_state_text}
+use Rattle.desk_types.specs.declared.proposal.Proposal.{Proposal}
 use Rattle.http_responses.specs.json.Values.{object_from, whole}
 
 -- a proposal: how many entries of each kind it names, its officer and its state

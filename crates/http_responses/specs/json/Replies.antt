@@ -1,12 +1,12 @@
 -- own: a reply in JSON, the keys of each object ascending.
 use Rattle.std.specs.Prelude.{ℕ, List, [], ◌∷◌, Option, Some, None, codes}
 use Rattle.serde_json.specs.Data.{Data, string}
-use Rattle.desk_texts.specs.Words.{state_text}
-use Rattle.desk_texts.specs.declared.reply.Confirmation.{Confirmation}
-use Rattle.desk_texts.specs.declared.reply.Counts.{Counts}
-use Rattle.desk_texts.specs.declared.reply.Outcome.{Outcome}
-use Rattle.desk_texts.specs.declared.reply.Reply.{Reply}
-use Rattle.desk_texts.specs.declared.reply.Reply.TheVariants.{Added, Submitted, Reviewed, Withdrawn, Returned, Listed, Unlisted, Revoked, Raised, Imported, Proposed, Confirmed, Dropped, Explained}
+use Rattle.desk_types.specs.Words.{state_text}
+use Rattle.desk_types.specs.declared.reply.Confirmation.{Confirmation}
+use Rattle.desk_types.specs.declared.reply.Counts.{Counts}
+use Rattle.desk_types.specs.declared.reply.Outcome.{Outcome}
+use Rattle.desk_types.specs.declared.reply.Reply.{Reply}
+use Rattle.desk_types.specs.declared.reply.Reply.TheVariants.{Added, Submitted, Reviewed, Withdrawn, Returned, Listed, Unlisted, Revoked, Raised, Imported, Proposed, Confirmed, Dropped, Explained}
 use Rattle.http_responses.specs.json.Values.{object_from, whole}
 
 -- a reply of one word

@@ -2,10 +2,10 @@
 use Rattle.std.specs.Prelude.{List, [], ◌∷◌, Option, Some, None, codes, map}
 use Rattle.serde_json.specs.Data.{Data, array, null, string}
 use Rattle.serde_json.specs.View.{items_of}
-use Rattle.desk_texts.specs.Words.{state_text, vote_text}
-use Rattle.desk_texts.specs.declared.shown.ShownRequest.{ShownRequest}
-use Rattle.desk_texts.specs.declared.shown.ShownReturn.{ShownReturn}
-use Rattle.desk_texts.specs.declared.shown.ShownVote.{ShownVote}
+use Rattle.desk_types.specs.Words.{state_text, vote_text}
+use Rattle.desk_types.specs.declared.shown.ShownRequest.{ShownRequest}
+use Rattle.desk_types.specs.declared.shown.ShownReturn.{ShownReturn}
+use Rattle.desk_types.specs.declared.shown.ShownVote.{ShownVote}
 use Rattle.http_responses.specs.json.Values.{object_from, whole, digest_data, digests_data, components_data}
 
 -- a vote

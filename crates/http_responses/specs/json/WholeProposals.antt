@@ -1,7 +1,7 @@
 -- own: a proposal in JSON with all that it names, the keys ascending.
 use Rattle.std.specs.Prelude.{ℕ, [], ◌∷◌, Option, Some, None, codes}
 use Rattle.serde_json.specs.Data.{Data, null, string}
-use Rattle.desk_texts.specs.Words.{proposal_kind_text, proposal_state_text}
+use Rattle.desk_types.specs.Words.{proposal_kind_text, proposal_state_text}
 use Rattle.desk_history.specs.declared.rows.ProposalRow.{ProposalRow}
 use Rattle.desk_exports.specs.Tags.{tag_of}
 use Rattle.http_responses.specs.json.Values.{components_data, digest_data, digests_data, object_from, whole}

@@ -6,7 +6,7 @@ ghost use Rattle.http_responses.specs.json.Facts.{facts_data};
 ghost use Rattle.http_responses.specs.json.Members.{with_facts};
 
 use crate::json::in_json::{InJson, array_of};
-use desk_texts::Facts;
+use desk_types::Facts;
 use serde_json::{Map, Value, put};
 use std::alloc::{AllocError, Global};
 

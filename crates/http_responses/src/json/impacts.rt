@@ -9,7 +9,7 @@ use crate::json::arrays::{JsonText, array_text, in_front};
 use crate::json::in_json::InJson;
 use crate::json::verdicts::{below, one_word};
 use desk_history::{BarredImage, Rule, ShownImpact};
-use desk_texts::{Counts, ProposalNumber};
+use desk_types::{Counts, ProposalNumber};
 use serde_json::{Value, json};
 use std::alloc::{AllocError, Global};
 

@@ -5,7 +5,7 @@ ghost use Rattle.http_responses.specs.json.Proposals as spec;
 
 use crate::json::arrays::{JsonText, array_text};
 use crate::json::in_json::InJson;
-use desk_texts::Proposal;
+use desk_types::Proposal;
 use serde_json::{Value, json};
 use std::alloc::{AllocError, Global};
 

@@ -4,7 +4,7 @@ ghost use Rattle.serde_json.specs.View.{view};
 ghost use Rattle.serde_json.specs.Written.{compact_text};
 ghost use Rattle.http_responses.specs.json.Replies as spec;
 
-use desk_texts::{Confirmation, Counts, Outcome, ProposalNumber, Reply, RequestNumber};
+use desk_types::{Confirmation, Counts, Outcome, ProposalNumber, Reply, RequestNumber};
 use serde_json::{Value, json};
 use std::alloc::{AllocError, Global};
 

@@ -9,7 +9,7 @@ ghost use Rattle.http_responses.specs.json.Requests as spec;
 use crate::json::arrays::JsonText;
 use crate::json::facts::put_facts;
 use crate::json::in_json::{InJson, array_of};
-use desk_texts::{ShownRequest, ShownReturn, ShownVote};
+use desk_types::{ShownRequest, ShownReturn, ShownVote};
 use serde_json::{Map, Value, json, put};
 use std::alloc::{AllocError, Global};
 

@@ -1,13 +1,13 @@
 //! A list of requests in JSON, written while it is read.
 ghost use Rattle.std.specs.Prelude.{◌≡◌, ◌++◌, ◌∷◌, [], List, IfOk, MatchResult, map};
 ghost use Rattle.serde_json.specs.Written.{compact_text};
-ghost use Rattle.desk_texts.specs.declared.shown.ShownRequest.{ShownRequest};
+ghost use Rattle.desk_types.specs.declared.shown.ShownRequest.{ShownRequest};
 ghost use Rattle.http_responses.specs.json.Arrays.{after_commas};
 ghost use Rattle.http_responses.specs.json.Requests.{request_data, requests_data};
 
 use crate::json::arrays::{in_brackets, push_item};
 use desk_exports::RequestList;
-use desk_texts::ShownRequest;
+use desk_types::ShownRequest;
 use http_server::Log;
 use std::alloc::{AllocError, Global};
 use std::marker::Model;

@@ -2,7 +2,7 @@
 ghost use Rattle.http_responses.specs.json.Values as spec;
 
 use crate::json::in_json::InJson;
-use desk_bytes::Digest;
+use base::Digest;
 use sbat::Component;
 use serde_json::{Value, json};
 use std::alloc::{AllocError, Global};

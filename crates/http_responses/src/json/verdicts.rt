@@ -5,7 +5,7 @@ ghost use Rattle.serde_json.specs.Written.{compact_text};
 ghost use Rattle.http_responses.specs.json.Verdicts as spec;
 
 use desk_history::{Below, Verdict};
-use desk_texts::Facts;
+use desk_types::Facts;
 use sbat::{Component, Generation};
 use serde_json::{Value, json};
 use std::alloc::{AllocError, Global};

@@ -6,7 +6,7 @@ ghost use Rattle.http_responses.specs.json.Waiting as spec;
 
 use crate::json::arrays::{in_front, push_array};
 use crate::json::requests_text::RequestsText;
-use desk_texts::Proposal;
+use desk_types::Proposal;
 use std::alloc::{AllocError, Global};
 
 /// Adds the text after the requests.

@@ -1,6 +1,6 @@
 -- The values of an image's headers before its sections are read.
 use Rattle.std.specs.Prelude.{◌≡◌, ◌<◌, ◌≤◌, ◌+◌, ◌*◌, ◌^◌, ℕ, List, length, IfSome}
-use Rattle.desk_bytes.specs.Limits.{longest_image}
+use Rattle.base.specs.Limits.{longest_image}
 use Rattle.pe_image.specs.Image.{pe_signature_offset, fixed_size, sections_begin, number_of_sections, size_of_headers}
 use Rattle.pe_image.specs.Places.{certificate_directory_of}
 use Rattle.pe_image.specs.declared.front.Front.{Front}

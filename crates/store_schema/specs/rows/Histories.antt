@@ -1,7 +1,7 @@
 -- Histories held in a store's tables.
 use Rattle.std.specs.Prelude.{◌≡◌, ℕ, List, take, true}
 use Rattle.std.specs.List.{list_all}
-use Rattle.desk_texts.specs.declared.command.Call.{Call}
+use Rattle.desk_types.specs.declared.command.Call.{Call}
 use Rattle.desk_history.specs.Calls.{History, is_first}
 use Rattle.desk_history.specs.Lives.{IsLeft}
 use Rattle.desk_history.specs.Tables.{Tables, tables}

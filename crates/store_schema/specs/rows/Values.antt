@@ -4,12 +4,12 @@ use Rattle.std.specs.Prelude.{ℕ, pos, List, [], ◌∷◌, unwrap_or}
 use Rattle.sqlite.specs.declared.types.Value.TheVariants.{Null, Int, Text, Blob}
 use Rattle.sqlite.specs.Order.{Row}
 use Rattle.sbat.specs.declared.component.Component.{Component}
-use Rattle.desk_texts.specs.declared.command.Person.{Person}
-use Rattle.desk_texts.specs.Callers.{caller_name}
-use Rattle.desk_texts.specs.ReplyTexts.{reply_text_of}
-use Rattle.desk_texts.specs.declared.proposal.ItemKind.{ItemKind}
-use Rattle.desk_texts.specs.declared.proposal.ItemKind.TheVariants as kinds
-use Rattle.desk_texts.specs.Words.{item_kind_text, kind_text, proposal_kind_text, proposal_state_text, role_text, state_text, vote_text}
+use Rattle.desk_types.specs.declared.command.Person.{Person}
+use Rattle.desk_types.specs.Callers.{caller_name}
+use Rattle.desk_types.specs.ReplyTexts.{reply_text_of}
+use Rattle.desk_types.specs.declared.proposal.ItemKind.{ItemKind}
+use Rattle.desk_types.specs.declared.proposal.ItemKind.TheVariants as kinds
+use Rattle.desk_types.specs.Words.{item_kind_text, kind_text, proposal_kind_text, proposal_state_text, role_text, state_text, vote_text}
 use Rattle.desk_history.specs.declared.rows.Entry.{Entry}
 use Rattle.desk_history.specs.declared.rows.Minute.{Minute}
 use Rattle.desk_history.specs.declared.rows.ProposalItem.{ProposalItem}

@@ -2,8 +2,8 @@
 use Rattle.std.specs.Prelude.{◌≡◌, ℕ, zero, suc, pos, List, [], ◌∷◌, ◌++◌, codes}
 use Rattle.sqlite.specs.declared.types.Value.TheVariants.{Null, Int, Text, Blob}
 use Rattle.sqlite.specs.Order.{Row}
-use Rattle.desk_texts.specs.declared.command.Command.TheVariants as command
-use Rattle.desk_texts.specs.declared.vote.Vote.TheVariants.{Yes}
+use Rattle.desk_types.specs.declared.command.Command.TheVariants as command
+use Rattle.desk_types.specs.declared.vote.Vote.TheVariants.{Yes}
 use Rattle.store_sql.specs.Contents.{Contents}
 use Rattle.desk_history.specs.Calls.{History, item}
 use Rattle.desk_history.specs.Tables.{tables}

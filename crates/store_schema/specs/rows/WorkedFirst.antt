@@ -3,8 +3,8 @@
 use Rattle.std.specs.Prelude.{◌≡◌, ℕ, pos, true, List, [], ◌∷◌, ◌++◌, codes}
 use Rattle.sqlite.specs.declared.types.Value.TheVariants.{Null, Int, Text, Blob}
 use Rattle.sqlite.specs.Order.{Row}
-use Rattle.desk_texts.specs.declared.command.Command.TheVariants as command
-use Rattle.desk_texts.specs.declared.role.Role.TheVariants.{Officer}
+use Rattle.desk_types.specs.declared.command.Command.TheVariants as command
+use Rattle.desk_types.specs.declared.role.Role.TheVariants.{Officer}
 use Rattle.store_sql.specs.Contents.{Contents}
 use Rattle.desk_history.specs.Calls.{First, History, under}
 use Rattle.desk_history.specs.Runs.{is_legal}

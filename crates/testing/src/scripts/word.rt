@@ -1,6 +1,6 @@
 //! The words of a line, and their values.
-use desk_bytes::Digest;
-use desk_texts::{
+use base::Digest;
+use desk_types::{
     Ballot, Call, Caller, Carried, Certificate, Command, Digests, Explanation, Facts, Import,
     ImportedComponents, Key, ListedKind, Listing, Note, Person, PersonName, ProposalNumber, Raise,
     Reason, RequestNumber, ReturnedFile, Role, Submission, Title, Vote,

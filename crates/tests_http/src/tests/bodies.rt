@@ -1,6 +1,6 @@
 //! JSON bodies.
-use desk_bytes::Digest;
-use desk_texts::{Ballot, Explanation, ListedKind, ProposalNumber, RequestNumber, Vote};
+use base::Digest;
+use desk_types::{Ballot, Explanation, ListedKind, ProposalNumber, RequestNumber, Vote};
 use http_requests::{
     BodyFault, read_digest, read_explanation, read_level, read_review, read_unlist,
 };

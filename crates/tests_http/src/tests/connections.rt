@@ -1,6 +1,6 @@
 //! `serve` and `listen` with clients.
 use super::clients::{client, clients, connected, got, got_each};
-use desk_bytes::Refusal;
+use base::Refusal;
 use http_net::{listen, serve};
 use http_requests::Routes;
 use std::io::ErrorKind;

@@ -1,10 +1,10 @@
 //! Requests by their heads.
-use desk_bytes::{Refusal, Watch};
+use base::{Refusal, Watch};
 use desk_exports::Reading;
-use desk_texts::{Command, ProposalNumber, RequestNumber};
+use desk_types::{Command, ProposalNumber, RequestNumber};
 use http_requests::{
-    AskedFault, Begun, BytesAsked, CommandAsked, ImageAsked, JsonAsked, KeyedAsked, ParsedHead,
-    PostRoute, ReadAsked, Route, Routes, Wanted, check_head, command_asked, image_asked,
+    AskedFault, HeadRead, BytesAsked, CommandAsked, ImageAsked, JsonAsked, KeyedCommand, ParsedHead,
+    PostRoute, ReadAsked, Route, Routes, CheckedHead, check_head, command_asked, image_asked,
     read_asked, read_head,
 };
 use std::alloc::Global;
@@ -231,11 +231,11 @@ RaiseLevel POST /level HTTP/1.1|CONTENT-LENGTH:\t 7 \t|desk-key:k||
 enum Asked {
     Read(ReadAsked),
     Image(ImageAsked),
-    Command(KeyedAsked),
+    Command(KeyedCommand),
 }
 
 /// The request of a head, by its route.
-fn ask(alloc: Global, wanted: &Wanted<'_>) -> Result<Asked, AskedFault> {
+fn ask(alloc: Global, wanted: &CheckedHead<'_>) -> Result<Asked, AskedFault> {
     match wanted.route {
         Route::Get(route) => Ok(Asked::Read(read_asked(route, wanted)?)),
         Route::Post(PostRoute::Image(route)) => {
@@ -250,8 +250,8 @@ fn ask(alloc: Global, wanted: &Wanted<'_>) -> Result<Asked, AskedFault> {
 /// The head that begins the bytes.
 pub(super) fn parsed(alloc: Global, mut bytes: &[u8]) -> Option<ParsedHead> {
     match read_head(alloc, &mut bytes, &mut Watch::new()).ok()? {
-        Begun::Head(head) => Some(head),
-        Begun::Nothing | Begun::NoHead => None,
+        HeadRead::Head(head) => Some(head),
+        HeadRead::Nothing | HeadRead::NoHead => None,
     }
 }
 
@@ -371,7 +371,7 @@ const CSV: &str = "POST /imports/csv HTTP/1.1|desk-KEY: k1\t|Content-Length: 004
 Desk-Stamp: 2024010100||rest";
 
 /// Whether the length is 42, the token `a b`, and there is no title.
-fn told_values(wanted: &Wanted<'_>) -> [bool; 3] {
+fn told_values(wanted: &CheckedHead<'_>) -> [bool; 3] {
     let is_token = match wanted.token {
         Some(token) => token == b"a b".as_slice(),
         None => false,

@@ -1,6 +1,6 @@
 //! Heads and bodies from readers.
-use desk_bytes::{InputFault, Watch};
-use http_requests::{Begun, read_body, read_head};
+use base::{InputFault, Watch};
+use http_requests::{HeadRead, read_body, read_head};
 use std::alloc::{AllocError, Global};
 use std::test::Fail;
 use testing::{Slow, bytes_of};
@@ -26,11 +26,11 @@ enum Read {
 }
 
 /// The outcome.
-fn told(answer: &Result<Begun, InputFault>) -> Read {
+fn told(answer: &Result<HeadRead, InputFault>) -> Read {
     match answer {
-        Ok(Begun::Nothing) => Read::Nothing,
-        Ok(Begun::NoHead) => Read::NoHead,
-        Ok(Begun::Head(_)) => Read::Head,
+        Ok(HeadRead::Nothing) => Read::Nothing,
+        Ok(HeadRead::NoHead) => Read::NoHead,
+        Ok(HeadRead::Head(_)) => Read::Head,
         Err(InputFault::Read) => Read::Failed,
         Err(_) => Read::Other,
     }
@@ -43,9 +43,9 @@ const HEAD: &str = "|POST /level HTTP/1.1|Desk-Key: k|Content-Length: 4||";
 const ALL: &str = "|POST /level HTTP/1.1|Desk-Key: k|Content-Length: 4||body";
 
 /// Whether these bytes are the head that was read.
-fn is_head(answer: &Result<Begun, InputFault>, head: &[u8]) -> bool {
+fn is_head(answer: &Result<HeadRead, InputFault>, head: &[u8]) -> bool {
     match answer {
-        Ok(Begun::Head(found)) => found.as_bytes() == head,
+        Ok(HeadRead::Head(found)) => found.as_bytes() == head,
         _ => false,
     }
 }

@@ -1,5 +1,5 @@
 //! Whole responses.
-use desk_bytes::Refusal;
+use base::Refusal;
 use http_requests::Methods;
 use http_responses::{
     Content, Outage, Refused, Status, outage_response, refused_response, response,

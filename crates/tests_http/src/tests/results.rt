@@ -1,6 +1,6 @@
 //! Results of `serve_one`.
 use super::serving::served;
-use desk_http::{Answered, HttpFault, Said, Served};
+use http_exchange::{Answered, HttpFault, Said, Served};
 use http_responses::{Outage, Refused, Status};
 use std::alloc::Global;
 use std::io::ErrorKind;

@@ -1,5 +1,5 @@
 //! The service of an input.
-use desk_http::{HttpFault, Intake, Served, serve_one};
+use http_exchange::{HttpFault, RequestReader, Served, serve_one};
 use http_requests::Routes;
 use std::alloc::Global;
 use std::io::{Read, Write};
@@ -15,7 +15,7 @@ pub(super) fn served<R: Read, W: Write>(
     writer: &mut W,
 ) -> Result<Served, HttpFault> {
     match Routes::new(alloc) {
-        Ok(routes) => serve_one(alloc, &routes, desk, reader, &mut Intake::new(), writer),
+        Ok(routes) => serve_one(alloc, &routes, desk, reader, &mut RequestReader::new(), writer),
         Err(_) => Err(HttpFault::NoMemory),
     }
 }

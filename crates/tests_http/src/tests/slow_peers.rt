@@ -1,7 +1,7 @@
 //! Slow peers, by a made-up clock.
 ghost use Rattle.std.specs.Prelude.{◌≤◌, IfOk};
 
-use desk_http::{HttpFault, Intake, Served};
+use http_exchange::{HttpFault, RequestReader, Served};
 use http_net::{Timed, Waits, answer_connection, read_off};
 use http_requests::Routes;
 use std::alloc::Global;
@@ -249,7 +249,7 @@ fn answered<R: Read + Drop, W: Write>(
     writer: &mut W,
 ) -> Result<Served, HttpFault> {
     match Routes::new(alloc) {
-        Ok(routes) => answer_connection(alloc, &routes, desk, reader, &mut Intake::new(), writer),
+        Ok(routes) => answer_connection(alloc, &routes, desk, reader, &mut RequestReader::new(), writer),
         Err(_) => Err(HttpFault::NoMemory),
     }
 }

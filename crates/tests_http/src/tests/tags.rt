@@ -1,6 +1,6 @@
 //! The entity tags of If-Match.
 use super::heads::parsed;
-use desk_bytes::Digest;
+use base::Digest;
 use http_requests::{ParsedHead, Route, Routes, check_head, tag_asked};
 use std::alloc::Global;
 use std::test::Fail;

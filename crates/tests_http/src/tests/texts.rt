@@ -1,10 +1,10 @@
 //! Replies, requests, facts, proposals, impacts, people, verdicts, what waits and the number of
 //! changes in JSON.
-use desk_bytes::Digest;
+use base::Digest;
 use desk_history::{
-    BarredImage, Below, File, ProposalRow, Rule, ShownImpact, ShownPerson, Verdict,
+    BarredImage, Below, WhichFile, ProposalRow, Rule, ShownImpact, ShownPerson, Verdict,
 };
-use desk_texts::{
+use desk_types::{
     Carried, Confirmation, Counts, Digests, Facts, Import, ImportedComponents, Note, Outcome,
     PersonName, Proposal, ProposalKind, ProposalNumber, ProposalState, Reply, RequestNumber, Role,
     ShownRequest, ShownReturn, ShownVote, ShownVotes, State, Title, Vote,
@@ -377,7 +377,7 @@ const NO_IMPACT: &str =
 fn barred(
     alloc: Global,
     number: u64,
-    file: File,
+    file: WhichFile,
     state: State,
     rule: Rule,
 ) -> Result<BarredImage, Fail> {
@@ -398,9 +398,9 @@ fn bars(alloc: Global) -> Result<Vec<BarredImage>, Fail> {
     let needed = Generation::new(5).ok_or("a generation")?;
     let below = Rule::Component(component(alloc, "shim", 4)?, needed);
     let mut bars = Vec::new(alloc);
-    bars.push(barred(alloc, 1, File::Submitted, State::Open, Rule::Digest)?)?;
-    bars.push(barred(alloc, 1, File::Returned, State::Signed, Rule::Certificate)?)?;
-    bars.push(barred(alloc, 999_999, File::Submitted, State::Withdrawn, below)?)?;
+    bars.push(barred(alloc, 1, WhichFile::Submitted, State::Open, Rule::Digest)?)?;
+    bars.push(barred(alloc, 1, WhichFile::Returned, State::Signed, Rule::Certificate)?)?;
+    bars.push(barred(alloc, 999_999, WhichFile::Submitted, State::Withdrawn, below)?)?;
     Ok(bars)
 }
 

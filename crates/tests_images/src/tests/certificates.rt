@@ -1,7 +1,7 @@
 //! Certificates that a table carries.
 use super::{Call, TABLE, check, tell_hex};
 use authenticode::{CarriedFault, carried};
-use desk_bytes::Digest;
+use base::Digest;
 use sha2::{Digest as _, Sha256};
 use std::alloc::{AllocError, Global};
 use std::test::Fail;

@@ -2,7 +2,7 @@
 use super::failing::takes_few_reads;
 use super::{Call, check, image};
 use authenticode::{digest, signing_digest, sums};
-use desk_bytes::{Digest, Watch};
+use base::{Digest, Watch};
 use pe_image::{Pieces, Ranges, layout, ranges};
 use sha2::{Digest as Hasher, Sha256};
 use std::alloc::Global;

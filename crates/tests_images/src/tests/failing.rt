@@ -3,9 +3,9 @@ ghost use Rattle.std.specs.Prelude.{replicate};
 
 use super::image;
 use authenticode::sums;
-use cli_lines::{Fault, print_ranges};
-use desk_bytes::Refusal;
-use desk_service::facts;
+use cli_output::{Fault, print_ranges};
+use base::Refusal;
+use desk_inputs::facts;
 use pe_image::{Bytes, LayoutFault, PIECE, ReadFailed, Source, gap, layout};
 use std::alloc::Global;
 use std::test::Fail;

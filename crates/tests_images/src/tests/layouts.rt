@@ -1,6 +1,6 @@
 //! Layouts of images.
 use super::{Call, check, image, put, tell_lines};
-use cli_lines::{print_fault, print_ranges};
+use cli_output::{print_fault, print_ranges};
 use pe_image::{Bytes, LayoutFault, Span, gap, layout, ranges, sbat_range, table};
 use std::alloc::Global;
 use std::fmt::Write;

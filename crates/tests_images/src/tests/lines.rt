@@ -1,12 +1,12 @@
 //! The printed lines of facts, of lists and of a fault.
 use super::{Call, check, image, tell_lines};
-use cli_lines::{
+use cli_output::{
     Fault, MOST_BYTES, print_facts, print_fault, print_impact, print_list, print_verdict,
 };
-use desk_bytes::{Guid, Refusal, WriteFailed};
-use desk_history::{BarredImage, Below, File, Rule, ShownImpact, Verdict};
-use desk_service::facts;
-use desk_texts::{Counts, Facts, PersonName, RequestNumber, State, Title};
+use base::{Guid, Refusal, WriteFailed};
+use desk_history::{BarredImage, Below, WhichFile, Rule, ShownImpact, Verdict};
+use desk_inputs::facts;
+use desk_types::{Counts, Facts, PersonName, RequestNumber, State, Title};
 use pe_image::Bytes;
 use sbat::{Component, Generation};
 use siglist::pack;
@@ -256,7 +256,7 @@ dbx 216
 /// An image of request 7 that would be barred.
 fn barred(
     alloc: Global,
-    file: File,
+    file: WhichFile,
     state: State,
     is_allowed: bool,
     rule: Rule,
@@ -281,17 +281,17 @@ fn component_rule(facts: &Facts, needs: Generation) -> Result<Rule, Fail> {
 /// An impact on three images.
 fn impact_on_three(alloc: Global, by_component: Rule) -> Result<ShownImpact, Fail> {
     let mut bars = Vec::new(alloc);
-    bars.push(barred(alloc, File::Submitted, State::Open, false, Rule::Digest)?)?;
+    bars.push(barred(alloc, WhichFile::Submitted, State::Open, false, Rule::Digest)?)?;
     bars.push(barred(
         alloc,
-        File::Returned,
+        WhichFile::Returned,
         State::Signed,
         true,
         Rule::Certificate,
     )?)?;
     bars.push(barred(
         alloc,
-        File::Submitted,
+        WhichFile::Submitted,
         State::Withdrawn,
         false,
         by_component,

@@ -1,6 +1,6 @@
 //! Sources in pieces.
 use super::image;
-use desk_bytes::Watch;
+use base::Watch;
 use pe_image::{Pieces, PiecesFault, Source};
 use std::alloc::Global;
 use std::test::Fail;

@@ -1,7 +1,7 @@
 //! Tokens of people.
 use super::{Call, check};
-use desk_bytes::InputFault;
-use desk_service::{read_token, read_token_digest};
+use base::InputFault;
+use desk_inputs::{read_token, read_token_digest};
 use std::alloc::Global;
 use std::fmt::Write;
 use std::test::Fail;

@@ -1,6 +1,6 @@
 //! The words of the command line.
 use super::{Call, check};
-use cli_words::{AuditWords, FollowWords, PersonWords, ServeWords, Words, WordsFault, words};
+use cli_arguments::{AuditWords, FollowWords, PersonWords, ServeWords, Words, WordsFault, words};
 use std::alloc::{AllocError, Global};
 use std::fmt::Write;
 use std::test::Fail;

@@ -1,6 +1,6 @@
 //! Commands, read back from their texts.
 use super::{Call, check};
-use desk_texts::{Command, command_text};
+use desk_types::{Command, command_text};
 use std::alloc::{AllocError, Global};
 use std::test::Fail;
 

@@ -2,9 +2,9 @@
 use super::inputs::{expanded, spelt, unbarred};
 use super::levels::put_names;
 use super::{Call, check, refuse, tell_hex};
-use desk_bytes::Digest;
-use desk_service::{ImportFault, import_csv, import_dbx, import_level};
-use desk_texts::{Command, Import};
+use base::Digest;
+use desk_inputs::{ImportFault, import_csv, import_dbx, import_level};
+use desk_types::{Command, Import};
 use sbat::Stamp;
 use siglist::ListsFault;
 use std::alloc::{AllocError, Global};

@@ -1,7 +1,7 @@
 //! Signature lists, read and written.
 use super::inputs::spelt;
 use super::{Call, check, is_beginning, narrow, refuse, tell_hex};
-use desk_bytes::{Digest, Guid, WriteFailed};
+use base::{Digest, Guid, WriteFailed};
 use siglist::{
     Entry, Kind, ListsFault, SignatureList, lists, sha256_entry, sha256_head, write_sha256,
     write_x509, write_x509_sha256, x509_sha256_entry, x509_sha256_head,

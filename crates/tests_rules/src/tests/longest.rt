@@ -1,6 +1,6 @@
 //! The submission of the longest text.
-use desk_bytes::Digest;
-use desk_texts::{Carried, Command, Facts, Submission, Title, command_text};
+use base::Digest;
+use desk_types::{Carried, Command, Facts, Submission, Title, command_text};
 use pe_image::Extent;
 use sbat::{Component, ComponentName, Components, Generation};
 use std::alloc::{AllocError, Global};

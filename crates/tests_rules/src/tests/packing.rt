@@ -2,7 +2,7 @@
 use super::inputs::expanded;
 use super::lists::{OWNER, TWO};
 use super::{Call, check, is_beginning, narrow, refuse, tell_hex};
-use desk_bytes::Guid;
+use base::Guid;
 use siglist::{PackFault, pack};
 use std::alloc::Global;
 use std::fmt::Write;

@@ -4,10 +4,10 @@ mod first_days;
 mod limits;
 mod tables;
 
-use desk_bytes::{Digest, Refusal};
+use base::{Digest, Refusal};
 use desk_history::{CommandText, Entry, Minute, ProposalRow, RequestRow, VoteRow, Write};
 use desk_rules::{Changes, ListView, Sizes, View, decide, decide_first, verdict};
-use desk_texts::{
+use desk_types::{
     ListedKind, Listing, Outcome, Person, PersonName, ProposalOutcome, Role, reply_text,
 };
 use sbat::{Component, Stamp};

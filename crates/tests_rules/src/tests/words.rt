@@ -1,5 +1,5 @@
 //! Texts in their forms: calls that take memory get it, even for the longest.
-use desk_texts::{
+use desk_types::{
     Caller, Command, Key, Note, PersonName, Reply, RequestNumber, Title, command_text, reply_text,
 };
 use std::alloc::{AllocError, Global};

@@ -1,7 +1,7 @@
 //! A desk over two files that is opened again after its machine stopped.
 use super::closing::{ADDED, Empty, LISTED, OPTIONS, closed, empty_files, if_it_answers, new_desk};
 use super::*;
-use desk_store::{reopen, restart};
+use store_desk::{reopen, restart};
 use sqlite::{FileStore, Files};
 use sqlite_disk::{Crash, Memory as MemoryFile};
 

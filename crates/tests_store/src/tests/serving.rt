@@ -4,11 +4,11 @@ use super::asking::apply;
 use super::founding::made;
 use super::*;
 use desk_answers::OpenDesk;
-use desk_calls::{Answer, Answering, Call as Asked, Task};
+use http_calls::{Answer, AnswersCalls, Call as Asked, Task};
 use desk_exports::{Octets, Reading, Shown};
-use desk_http::serve_each;
-use desk_service::token_digest;
-use desk_texts::{Caller, Command, Key, PersonName, Role};
+use http_exchange::serve_each;
+use desk_inputs::token_digest;
+use desk_types::{Caller, Command, Key, PersonName, Role};
 use http_requests::Routes;
 use testing::bytes_of;
 
@@ -115,7 +115,7 @@ fn joined(alloc: Global, texts: &[Octets]) -> Result<Vec<u8>, AllocError> {
 }
 
 /// Whether each of the requests is served.
-fn are_served<D: Answering>(
+fn are_served<D: AnswersCalls>(
     alloc: Global,
     routes: &Routes,
     desk: &mut D,
@@ -126,7 +126,7 @@ fn are_served<D: Answering>(
 }
 
 /// The responses to the requests, one after another, if each is served.
-fn served_each<D: Answering>(alloc: Global, desk: &mut D, inputs: &[Octets]) -> Option<Vec<u8>> {
+fn served_each<D: AnswersCalls>(alloc: Global, desk: &mut D, inputs: &[Octets]) -> Option<Vec<u8>> {
     let routes = Routes::new(alloc).ok()?;
     let mut writer = Vec::new(alloc);
     if are_served(alloc, &routes, desk, inputs, &mut writer) {
@@ -160,7 +160,7 @@ fn level<S: Alter + Drop>(alloc: Global, desk: &mut OpenDesk<S>, line: &str) -> 
 }
 
 /// Whether the desk serves each request of the rows with its response.
-fn serves<D: Answering>(alloc: Global, desk: &mut D, rows: &str) -> Option<bool> {
+fn serves<D: AnswersCalls>(alloc: Global, desk: &mut D, rows: &str) -> Option<bool> {
     let inputs = sides(alloc, rows, true)?;
     let wanted = joined(alloc, &sides(alloc, rows, false)?).ok()?;
     let told = served_each(alloc, desk, &inputs)?;

@@ -1,6 +1,6 @@
 use Rattle.std.proofs.Common.{◌≡◌, ◌++◌, ◌∷◌, [], ap, ◌∙◌, rules}
 use Rattle.std.proofs.lemmas.Result.{err_from_is_err_and}
-use Rattle.desk_bytes.specs.Parts.{part_of}
+use Rattle.base.specs.Parts.{part_of}
 use Rattle.authenticode.proofs.CarriedLemmas.{adds_none, adds_tbs, no_certificate}
 use Rattle.authenticode.proofs.row.push_first.Goals as goal
 use Rattle.authenticode.proofs.row.push_first.Goals.{then-found-eq-SEQUENCE+in_ok-tbs+else-is_err, else-found-eq-SEQUENCE}

@@ -1,4 +1,4 @@
-use Rattle.desk_bytes.proofs.OutputLemmas.{OnErr-fact}
+use Rattle.base.proofs.OutputLemmas.{OnErr-fact}
 use Rattle.cli_audit.proofs.WritingLemmas.{flushed_begins}
 use Rattle.cli_audit.proofs.writing.say.Goals as goal
 

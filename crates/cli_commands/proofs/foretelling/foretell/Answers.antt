@@ -1,8 +1,8 @@
 use Rattle.std.proofs.Common.{◌≡◌, refl, arith}
-use Rattle.desk_bytes.specs.declared.refusal.Refusal.TheVariants as refusals
-use Rattle.desk_texts.specs.declared.caller.Caller.TheVariants as callers
+use Rattle.base.specs.declared.refusal.Refusal.TheVariants as refusals
+use Rattle.desk_types.specs.declared.caller.Caller.TheVariants as callers
 use Rattle.desk_history.specs.ImpactShown.{impact_for}
-use Rattle.cli_lines.proofs.LineLemmas.{Appends-same, AppendsBeginning-same}
+use Rattle.cli_output.proofs.LineLemmas.{Appends-same, AppendsBeginning-same}
 use Rattle.cli_commands.specs.Faults.{IsForetellingRefusal}
 use Rattle.cli_commands.proofs.FaultLemmas.{store_told}
 use Rattle.cli_commands.proofs.ForetellingLemmas.{due_lines, due_outcome, foretelling_named}

@@ -1,4 +1,4 @@
-use Rattle.desk_bytes.proofs.OutputLemmas.{OnErr-fact}
+use Rattle.base.proofs.OutputLemmas.{OnErr-fact}
 use Rattle.cli_commands.proofs.LineLemmas.{whole_kept}
 use Rattle.cli_commands.proofs.foretelling.say_impact.Goals as goal
 

@@ -1,6 +1,6 @@
 use Rattle.std.proofs.Common.{◌∙◌, ap}
-use Rattle.desk_bytes.proofs.OutputLemmas.{OnErr-fact}
-use Rattle.cli_lines.proofs.LineLemmas.{Appends-same}
+use Rattle.base.proofs.OutputLemmas.{OnErr-fact}
+use Rattle.cli_output.proofs.LineLemmas.{Appends-same}
 use Rattle.cli_commands.specs.Works.{line_of}
 use Rattle.cli_commands.proofs.LineLemmas.{whole_kept}
 use Rattle.cli_commands.proofs.saying.say_reply.Goals as goal

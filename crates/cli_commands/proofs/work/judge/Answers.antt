@@ -1,8 +1,8 @@
 use Rattle.std.proofs.Common.{ap, refl, arith}
 use Rattle.desk_history.specs.Verdicts as verdicts
 use Rattle.desk_history.specs.declared.finding.Verdict.{Verdict}
-use Rattle.cli_lines.specs.VerdictLines.{verdict_line}
-use Rattle.desk_store.specs.Desks.{ShowsDesk}
+use Rattle.cli_output.specs.VerdictLines.{verdict_line}
+use Rattle.store_desk.specs.Desks.{ShowsDesk}
 use Rattle.cli_commands.proofs.FaultLemmas.{reopen_told, store_given, store_told}
 use Rattle.cli_commands.proofs.LineLemmas.{OnErr-of_each, none_written}
 use Rattle.cli_commands.proofs.work.judge.Goals as goal

@@ -1,7 +1,7 @@
 use Rattle.std.proofs.Common.{◌≡◌}
 use Rattle.cli_commands.specs.Faults.{IsAddingRefusal}
 use Rattle.cli_opening.specs.Faults.{IsOpeningRefusal}
-use Rattle.cli_lines.specs.declared.ending.Outcome.TheVariants.{Done}
+use Rattle.cli_output.specs.declared.ending.WorkOutcome.TheVariants.{Done}
 use Rattle.cli_opening.proofs.EndingLemmas.{done_of, either_row, first_keeps, left_of, unopened_keeps}
 use Rattle.cli_files.proofs.working.add_person.Goals as goal
 

@@ -1,7 +1,7 @@
 use Rattle.std.proofs.Common.{◌≡◌, ℕ}
-use Rattle.desk_lines.specs.Faults.{IsCaused}
-use Rattle.desk_lines.specs.declared.auditing.AuditFault.TheVariants.{Line}
-use Rattle.desk_follow.specs.Runs.{HasRun, IsWrongLine}
+use Rattle.store_minutes.specs.Faults.{IsCaused}
+use Rattle.store_minutes.specs.declared.auditing.AuditFault.TheVariants.{Line}
+use Rattle.store_follow.specs.Runs.{HasRun, IsWrongLine}
 use Rattle.cli_follow.proofs.RunLemmas.{fault_of, run_of, stopped_runs, told_runs}
 use Rattle.cli_follow.proofs.following.follow_and_tell.Goals as goal
 

@@ -1,5 +1,5 @@
 use Rattle.std.proofs.Common.{inl, inr, refl}
-use Rattle.desk_bytes.specs.declared.refusal.Refusal.TheVariants as refusals
+use Rattle.base.specs.declared.refusal.Refusal.TheVariants as refusals
 use Rattle.cli_audit.proofs.AuditLemmas.{buffered}
 use Rattle.cli_follow.proofs.EndLemmas.{at_desk, follow_first, follow_named, unasked}
 use Rattle.cli_follow.proofs.following.follow_input.Goals as goal

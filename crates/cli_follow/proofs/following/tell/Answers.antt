@@ -1,6 +1,6 @@
 use Rattle.cli_opening.proofs.EndingLemmas.{keeps_same}
-use Rattle.desk_bytes.specs.declared.refusal.Refusal.TheVariants as refusals
-use Rattle.cli_lines.specs.Faults.{row_of}
+use Rattle.base.specs.declared.refusal.Refusal.TheVariants as refusals
+use Rattle.cli_output.specs.Faults.{row_of}
 use Rattle.cli_follow.proofs.RunLemmas.{no_fault, other_fault}
 use Rattle.cli_follow.proofs.following.tell.Goals as goal
 

@@ -1,6 +1,6 @@
 use Rattle.std.proofs.Common.{◌≡◌, ◌∙◌, rules, sym}
 use Rattle.sqlite.specs.Held.{state}
-use Rattle.desk_bytes.specs.declared.refusal.Refusal.TheVariants as refusals
+use Rattle.base.specs.declared.refusal.Refusal.TheVariants as refusals
 use Rattle.store_schema.specs.Tables.{no_schema}
 use Rattle.cli_opening.proofs.CommitLemmas.{finding_refusal, found_made, found_opened, unmade}
 use Rattle.cli_opening.proofs.desk_file.found_or_made.Goals as goal

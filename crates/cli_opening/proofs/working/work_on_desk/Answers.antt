@@ -1,5 +1,5 @@
 use Rattle.std.proofs.Common.{inl, inr, refl}
-use Rattle.cli_lines.specs.Faults.{IsRow}
+use Rattle.cli_output.specs.Faults.{IsRow}
 use Rattle.cli_opening.specs.Faults.{IsOpeningRefusal}
 use Rattle.cli_opening.proofs.EndingLemmas.{also, never_of_opening}
 use Rattle.cli_opening.proofs.working.work_on_desk.Goals as goal

@@ -1,6 +1,6 @@
 use Rattle.std.proofs.Common.{◌++◌, ap, map}
 use Rattle.sbat.specs.Writing.{head_text}
-use Rattle.desk_texts.specs.declared.kind.ListedKind.TheVariants as kinds
+use Rattle.desk_types.specs.declared.kind.ListedKind.TheVariants as kinds
 use Rattle.desk_history.specs.Level.{stamp}
 use Rattle.desk_exports.specs.Exports.{entries_of, level_components, revoked, revoked_bodies, revoked_bodiless}
 use Rattle.desk_exports.proofs.PartLemmas.{db-parts, dbx-parts, rows-parts, shim-parts}

@@ -1,5 +1,5 @@
 use Rattle.std.proofs.Common.{◌≡◌, ◌≢◌, ℕ, List, [], ◌∷◌, ◌++◌, length, rules, ap, ◌∙◌}
-use Rattle.desk_texts.proofs.SpaceLemmas.{none_fact}
+use Rattle.desk_types.proofs.SpaceLemmas.{none_fact}
 use Rattle.desk_minutes.specs.Fields.{AreFields, spelt}
 use Rattle.desk_minutes.proofs.LineLemmas.{cut_same, fields_join, spelt-alone, uncut}
 use Rattle.desk_minutes.proofs.fields.fields_of.Goals as goal

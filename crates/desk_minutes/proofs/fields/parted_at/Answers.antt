@@ -1,5 +1,5 @@
 use Rattle.std.proofs.Common.{sym, ◌∙◌}
-use Rattle.desk_texts.proofs.SpaceLemmas.{cut_found, cut_none, none_fact}
+use Rattle.desk_types.proofs.SpaceLemmas.{cut_found, cut_none, none_fact}
 use Rattle.desk_minutes.proofs.fields.parted_at.Goals as goal
 
 pub returns-in_err-place-clause-only : goal.returns-in_err-place-clause-only

@@ -1,9 +1,9 @@
 use Rattle.std.proofs.Common.{[], ◌∷◌, subst, sym}
-use Rattle.desk_texts.specs.declared.command.Command.{Command}
+use Rattle.desk_types.specs.declared.command.Command.{Command}
 use Rattle.desk_rules.specs.DecisionSteps.{DecidesOwn}
-use Rattle.desk_texts.specs.declared.kind.ListedKind.TheVariants as kinds
-use Rattle.desk_texts.specs.declared.proposal.ProposalState.TheVariants as states
-use Rattle.desk_texts.specs.declared.reply.Reply.TheVariants as replies
+use Rattle.desk_types.specs.declared.kind.ListedKind.TheVariants as kinds
+use Rattle.desk_types.specs.declared.proposal.ProposalState.TheVariants as states
+use Rattle.desk_types.specs.declared.reply.Reply.TheVariants as replies
 use Rattle.desk_history.specs.declared.write.Write.TheVariants as writes
 use Rattle.desk_rules.proofs.AnswerLemmas.{adds_only, drops_only, explains_only, lists_only, returns_only, reviews_only, unlists_only, withdraws_only}
 use Rattle.desk_rules.proofs.DecisionLemmas.{adds, lists_certificate, lists_digest, unlists}

@@ -9,5 +9,5 @@ loop-preserved g c =
       in_turn = serves_one_more (g.P.Peers.serves c.args.peers.now) c.loop.counter c.in-Some.served c.args.desk.now c.loop.desk c.serve_next.new.desk
           c.loop.invariant.in_turn c.in-Some.ensures.served (sym c.ending_refusal.ensures ∙ c.in-None.is);
       before = λ clean. c.loop.invariant.before (c.serve_next.ensures.before clean);
-      closed = λ was. c.serve_next.ensures.closed (subst g.D.Answering.failed (sym (same was)) was) ∙ same was;
+      closed = λ was. c.serve_next.ensures.closed (subst g.D.AnswersCalls.failed (sym (same was)) was) ∙ same was;
     }

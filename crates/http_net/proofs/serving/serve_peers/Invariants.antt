@@ -5,6 +5,6 @@ use Rattle.http_net.proofs.serving.serve_peers.Given as goal
 abbrev pub invariant-loop : goal.invariant-loop
 invariant-loop g l = record {
   in_turn : ServesInTurn (g.P.Peers.serves l.peers) l.counter l.initial.desk l.desk (Ok tt);
-  before : g.D.Answering.clean l.desk → g.D.Answering.clean l.initial.desk;
-  closed : g.D.Answering.failed l.initial.desk → l.desk ≡ l.initial.desk;
+  before : g.D.AnswersCalls.clean l.desk → g.D.AnswersCalls.clean l.initial.desk;
+  closed : g.D.AnswersCalls.failed l.initial.desk → l.desk ≡ l.initial.desk;
 }

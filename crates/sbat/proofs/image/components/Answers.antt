@@ -1,6 +1,6 @@
 use Rattle.std.proofs.Common.{◌≤◌, ◌∙◌, Ok, ap, length, sym, rules}
-use Rattle.desk_bytes.specs.Limits.{most_components}
-use Rattle.desk_bytes.specs.Lines.{line_of}
+use Rattle.base.specs.Limits.{most_components}
+use Rattle.base.specs.Lines.{line_of}
 use Rattle.sbat.proofs.RowLemmas.{Reading-ends, Reading-long, Reading-next}
 use Rattle.sbat.proofs.image.components.Goals as goal
 

@@ -1,7 +1,7 @@
 use Rattle.std.proofs.Common.{◌≤◌, arith, rules}
 use Rattle.std.specs.FinMap.{len}
 use Rattle.std.proofs.lemmas.Bool.Decides.{nat_tests}
-use Rattle.desk_bytes.specs.Lines.{line_of}
+use Rattle.base.specs.Lines.{line_of}
 use Rattle.sbat.specs.Refusals.{most_names}
 use Rattle.sbat.proofs.LevelLemmas.{Raising-begins, Raising-ends, Raising-long, Raising-next}
 use Rattle.sbat.proofs.level_reading.read_rows.Goals as goal

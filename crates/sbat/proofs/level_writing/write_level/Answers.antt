@@ -1,5 +1,5 @@
 use Rattle.std.specs.FinMap.{entries}
-use Rattle.desk_bytes.proofs.OutputLemmas.{AppendsBeginning-before, OnErr-fact}
+use Rattle.base.proofs.OutputLemmas.{AppendsBeginning-before, OnErr-fact}
 use Rattle.sbat.specs.Writing.{head_text, rows_text}
 use Rattle.sbat.proofs.WritingLemmas.{Written-next, Written-stops}
 use Rattle.sbat.proofs.level_writing.write_level.Goals as goal

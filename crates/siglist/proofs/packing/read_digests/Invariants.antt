@@ -1,7 +1,7 @@
 use Rattle.std.proofs.Common.{◌≡◌}
-use Rattle.desk_bytes.specs.Lines.{parted}
+use Rattle.base.specs.Lines.{parted}
 use Rattle.siglist.specs.Packing.{digests_in}
-use Rattle.desk_bytes.proofs.NamedLemmas.{put_before}
+use Rattle.base.proofs.NamedLemmas.{put_before}
 use Rattle.siglist.proofs.packing.read_digests.Given as goal
 
 abbrev pub invariant-loop-line : goal.invariant-loop-line

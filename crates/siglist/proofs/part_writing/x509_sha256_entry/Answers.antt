@@ -1,7 +1,7 @@
 use Rattle.std.proofs.Common.{◌++◌, ap₂, append_assoc, subst}
 use Rattle.std.specs.Io.KnownBytes.{Appends}
-use Rattle.desk_bytes.specs.Output.{AppendsBeginning}
-use Rattle.desk_bytes.proofs.OutputLemmas.{AppendsBeginning-before, OnErr-after, OnErr-fact}
+use Rattle.base.specs.Output.{AppendsBeginning}
+use Rattle.base.proofs.OutputLemmas.{AppendsBeginning-before, OnErr-after, OnErr-fact}
 use Rattle.siglist.specs.Writing.{no_time}
 use Rattle.siglist.proofs.WritingLemmas.{OnErr-spelt}
 use Rattle.siglist.proofs.part_writing.x509_sha256_entry.Goals as goal

@@ -1,6 +1,6 @@
 use Rattle.std.proofs.Common.{sym, subst}
-use Rattle.desk_bytes.specs.Output.{AppendsBeginning}
-use Rattle.desk_bytes.proofs.OutputLemmas.{AppendsBeginning-before, OnErr-fact}
+use Rattle.base.specs.Output.{AppendsBeginning}
+use Rattle.base.proofs.OutputLemmas.{AppendsBeginning-before, OnErr-fact}
 use Rattle.siglist.proofs.WritingLemmas.{one_row-err, one_row-ok, one_text}
 use Rattle.siglist.proofs.writing.put_one.Goals as goal
 

@@ -3,8 +3,8 @@ use Rattle.sqlite.specs.Held.{state}
 use Rattle.sqlite.specs.declared.types.Value.TheVariants.{Text}
 use Rattle.siglist.specs.SignatureLists.{spelling}
 use Rattle.siglist.specs.Writing.{x509_row}
-use Rattle.desk_texts.specs.Words.{kind_text}
-use Rattle.desk_texts.specs.declared.kind.ListedKind.TheVariants as kinds
+use Rattle.desk_types.specs.Words.{kind_text}
+use Rattle.desk_types.specs.declared.kind.ListedKind.TheVariants as kinds
 use Rattle.store_schema.specs.rows.Values.{entry_values}
 use Rattle.desk_exports.specs.Exports.{entries_of}
 use Rattle.store_schema.specs.declared.selecting.TheConstants.{SELECT_LISTED_OF}

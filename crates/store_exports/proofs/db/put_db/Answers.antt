@@ -2,7 +2,7 @@ use Rattle.std.proofs.Common.{◌≡◌, ◌++◌, ℕ, List, map, flat_map, sym
 use Rattle.std.proofs.lemmas.Result.{err_from_is_err_and}
 use Rattle.siglist.specs.SignatureLists.{spelling}
 use Rattle.siglist.specs.Writing.{sha256_parts, x509_row}
-use Rattle.desk_texts.specs.declared.kind.ListedKind.TheVariants as kinds
+use Rattle.desk_types.specs.declared.kind.ListedKind.TheVariants as kinds
 use Rattle.desk_history.specs.Calls.{History}
 use Rattle.desk_exports.specs.Exports.{db, entries_of}
 use Rattle.desk_exports.proofs.PartLemmas.{db-parts}

@@ -2,7 +2,7 @@ use Rattle.std.proofs.Common.{[], ◌≤◌, ◌∙◌, sym, subst, rules}
 use Rattle.std.proofs.lemmas.Result.{err_from_is_err_and}
 use Rattle.sqlite.specs.Held.{state}
 use Rattle.siglist.specs.Writing.{x509_sha256_entry_bytes, x509_sha256_head_bytes, x509_sha256_parts}
-use Rattle.desk_texts.specs.declared.kind.ListedKind.TheVariants as kinds
+use Rattle.desk_types.specs.declared.kind.ListedKind.TheVariants as kinds
 use Rattle.desk_history.specs.Calls.{distinct}
 use Rattle.desk_history.specs.Revocations.{revocations}
 use Rattle.desk_exports.specs.Exports.{revoked}

@@ -1,7 +1,7 @@
 use Rattle.std.proofs.Common.{◌≡◌, ◌++◌, List, ℕ, sym, subst}
 use Rattle.std.proofs.lemmas.Result.{err_from_is_err_and}
 use Rattle.siglist.specs.Writing.{sha256_parts, x509_sha256_parts}
-use Rattle.desk_texts.specs.declared.kind.ListedKind.TheVariants as kinds
+use Rattle.desk_types.specs.declared.kind.ListedKind.TheVariants as kinds
 use Rattle.desk_history.specs.Calls.{History}
 use Rattle.desk_exports.specs.Exports.{dbx, revoked}
 use Rattle.desk_exports.proofs.PartLemmas.{dbx-parts}

@@ -3,7 +3,7 @@ use Rattle.std.proofs.KnownBytes.{Appends-nil}
 use Rattle.std.proofs.lemmas.Result.{err_from_is_err_and}
 use Rattle.sqlite.specs.Held.{state}
 use Rattle.siglist.specs.Writing.{sha256_entry_bytes, sha256_head_bytes, sha256_parts}
-use Rattle.desk_texts.specs.declared.kind.ListedKind.TheVariants as kinds
+use Rattle.desk_types.specs.declared.kind.ListedKind.TheVariants as kinds
 use Rattle.desk_history.specs.Calls.{distinct}
 use Rattle.desk_history.specs.Revocations.{revocations}
 use Rattle.desk_exports.specs.Exports.{revoked}
@@ -12,7 +12,7 @@ use Rattle.store_schema.specs.rows.Values.{digest_values}
 use Rattle.store_schema.proofs.SelectFacts as facts
 use Rattle.store_exports.specs.Exporting.{Exports}
 use Rattle.store_reads.specs.declared.counts.Counted.TheVariants as what
-use Rattle.desk_bytes.proofs.OutputLemmas.{AppendsBeginning-none}
+use Rattle.base.proofs.OutputLemmas.{AppendsBeginning-none}
 use Rattle.store_exports.proofs.CountedLemmas.{head_stopped, whole}
 use Rattle.store_exports.proofs.ExportLemmas.{tells_digests}
 use Rattle.desk_exports.proofs.OrderLemmas.{length_ascending}

@@ -2,11 +2,11 @@ use Rattle.std.proofs.Common.{◌≡◌, ◌++◌, ℕ, List, flat_map, take, sy
 use Rattle.std.specs.Io.KnownBytes.{Appends}
 use Rattle.std.proofs.KnownBytes.{Appends-nil, Appends-trans}
 use Rattle.std.proofs.lemmas.List.{take_all}
-use Rattle.desk_bytes.specs.Output.{AppendsBeginning}
-use Rattle.desk_bytes.proofs.OutputLemmas.{AppendsBeginning-after, AppendsBeginning-before, OnErr-fact}
+use Rattle.base.specs.Output.{AppendsBeginning}
+use Rattle.base.proofs.OutputLemmas.{AppendsBeginning-after, AppendsBeginning-before, OnErr-fact}
 use Rattle.siglist.specs.SignatureLists.{spelling}
 use Rattle.siglist.specs.Writing.{x509_row}
-use Rattle.desk_texts.specs.Certificates.{WholeCertificate}
+use Rattle.desk_types.specs.Certificates.{WholeCertificate}
 use Rattle.store_exports.proofs.WrittenLemmas.{flat_more, flat_round}
 use Rattle.store_exports.proofs.gathered.put_each.Goals as goal
 

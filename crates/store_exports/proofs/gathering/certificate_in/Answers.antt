@@ -1,7 +1,7 @@
 use Rattle.std.proofs.Common.{◌≡◌, ◌∙◌, ap, sym, rules}
-use Rattle.desk_texts.specs.Commands.{IsCommand}
-use Rattle.desk_texts.specs.CommandTexts.{text_of}
-use Rattle.desk_texts.specs.Formed.{IsWithin}
+use Rattle.desk_types.specs.Commands.{IsCommand}
+use Rattle.desk_types.specs.CommandTexts.{text_of}
+use Rattle.desk_types.specs.Formed.{IsWithin}
 use Rattle.desk_exports.specs.Bodies.{certificate_listed}
 use Rattle.store_exports.proofs.gathering.certificate_in.Goals as goal
 

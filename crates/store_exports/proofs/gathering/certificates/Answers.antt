@@ -1,7 +1,7 @@
 use Rattle.std.proofs.Common.{[], arith}
 use Rattle.sqlite.specs.Held.{state}
 use Rattle.sqlite.specs.State.{HasCleanDisk}
-use Rattle.desk_texts.specs.declared.kind.ListedKind.TheVariants as kinds
+use Rattle.desk_types.specs.declared.kind.ListedKind.TheVariants as kinds
 use Rattle.desk_exports.specs.Exports.{revoked}
 use Rattle.store_schema.proofs.SelectFacts as facts
 use Rattle.store_schema.specs.Tables.{desk_layout}

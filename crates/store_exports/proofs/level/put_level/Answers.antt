@@ -3,8 +3,8 @@ use Rattle.std.proofs.lemmas.Result.{err_from_is_err_and}
 use Rattle.sqlite.specs.Held.{state}
 use Rattle.sqlite.specs.State.{Survives}
 use Rattle.sbat.specs.Writing.{head_text, row_text}
-use Rattle.desk_bytes.specs.Output.{AppendsBeginning}
-use Rattle.desk_bytes.proofs.OutputLemmas.{AppendsBeginning-before}
+use Rattle.base.specs.Output.{AppendsBeginning}
+use Rattle.base.proofs.OutputLemmas.{AppendsBeginning-before}
 use Rattle.desk_history.specs.Calls.{History}
 use Rattle.desk_exports.specs.Exports.{level_components}
 use Rattle.desk_exports.proofs.PartLemmas.{rows-parts}

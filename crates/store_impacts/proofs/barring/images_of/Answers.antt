@@ -4,7 +4,7 @@ use Rattle.sqlite.specs.Held.{state}
 use Rattle.sqlite.specs.State.{HasCleanDisk}
 use Rattle.sqlite.proofs.StateLemmas.{survives_then}
 use Rattle.store_reads.specs.Reads.{listed}
-use Rattle.store_requests.specs.Telling.{TellsOf}
+use Rattle.store_shown.specs.Telling.{TellsOf}
 use Rattle.store_impacts.specs.Barring.{AreBarred, IsBarred}
 use Rattle.store_impacts.proofs.LoopLemmas.{bars_more, bars_none, has_items}
 use Rattle.store_impacts.proofs.TellsLemmas.{of_none, of_so, of_then}

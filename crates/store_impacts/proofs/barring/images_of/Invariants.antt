@@ -1,7 +1,7 @@
 use Rattle.std.proofs.Common.{◌≡◌, ◌<◌, take, IsTrue}
 use Rattle.sqlite.specs.Held.{state}
 use Rattle.sqlite.specs.State.{HasCleanDisk, Survives}
-use Rattle.store_requests.specs.Telling.{TellsOf}
+use Rattle.store_shown.specs.Telling.{TellsOf}
 use Rattle.store_impacts.specs.Barring.{AreBarred}
 use Rattle.store_impacts.proofs.barring.images_of.Given as goal
 

@@ -3,7 +3,7 @@ use Rattle.std.specs.Prelude.{option_copied}
 use Rattle.sqlite.specs.Held.{state}
 use Rattle.desk_history.specs.People.{people}
 use Rattle.store_reads.specs.People.{IsOneOf}
-use Rattle.store_requests.specs.Telling.{IsOfficer}
+use Rattle.store_shown.specs.Telling.{IsOfficer}
 use Rattle.store_impacts.specs.Reading.{refusal_to}
 use Rattle.store_impacts.proofs.TellsLemmas.{of_so}
 use Rattle.store_impacts.proofs.ReaderLemmas.{refuses_none, refuses_some}

@@ -7,7 +7,7 @@ use Rattle.store_schema.specs.Tables as tables
 use Rattle.store_schema.specs.declared.selecting.TheConstants.{SELECT_LISTED}
 use Rattle.store_schema.proofs.SelectFacts as facts
 use Rattle.desk_history.specs.Listing.{is_entry}
-use Rattle.desk_texts.specs.Words.{kind_text}
+use Rattle.desk_types.specs.Words.{kind_text}
 use Rattle.desk_history.specs.Tables.{Tables}
 use Rattle.store_schema.specs.rows.Values as values
 use Rattle.store_reads.proofs.FindLemmas.{tells_row}

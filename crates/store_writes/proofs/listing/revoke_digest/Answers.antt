@@ -4,7 +4,7 @@ use Rattle.store_schema.specs.Columns.{values_of}
 use Rattle.store_schema.specs.Tables.{revoked_digests}
 use Rattle.store_schema.specs.declared.inserting.TheConstants.{INSERT_REVOKED_DIGEST}
 use Rattle.store_schema.proofs.InsertFacts.{insert_revoked_digest}
-use Rattle.desk_texts.specs.declared.kind.ListedKind.TheVariants as kinds
+use Rattle.desk_types.specs.declared.kind.ListedKind.TheVariants as kinds
 use Rattle.desk_history.specs.Writes.{with_revoked}
 use Rattle.store_schema.specs.rows.Values.{digest_values}
 use Rattle.store_writes.proofs.RowLemmas.{revoked_digest_in}

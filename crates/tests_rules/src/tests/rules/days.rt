@@ -2,7 +2,7 @@
 //! verdict on it.
 use super::tables::{new_tables, write_all};
 use super::*;
-use desk_texts::{Call, Facts, Reply};
+use desk_types::{Call, Facts, Reply};
 use std::fmt::Write as _;
 
 /// The rules by which the calls of a day are decided.

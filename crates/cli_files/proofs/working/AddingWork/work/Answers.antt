@@ -1,6 +1,6 @@
 use Rattle.std.proofs.Common.{◌≡◌}
 use Rattle.cli_commands.specs.Faults.{IsAddingRefusal}
-use Rattle.cli_lines.specs.declared.ending.Outcome.TheVariants.{Done}
+use Rattle.cli_output.specs.declared.ending.WorkOutcome.TheVariants.{Done}
 use Rattle.cli_opening.proofs.EndingLemmas.{both_of, rows_apart}
 use Rattle.cli_files.proofs.ServingLemmas.{adding_apart}
 use Rattle.cli_files.proofs.WorkLemmas.{silent_of}

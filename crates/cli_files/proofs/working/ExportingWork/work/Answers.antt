@@ -1,6 +1,6 @@
 use Rattle.std.proofs.Common.{◌≡◌}
 use Rattle.cli_commands.specs.Faults.{IsWritingRefusal}
-use Rattle.cli_lines.specs.declared.ending.Outcome.TheVariants.{Done}
+use Rattle.cli_output.specs.declared.ending.WorkOutcome.TheVariants.{Done}
 use Rattle.cli_opening.proofs.EndingLemmas.{both_of, rows_apart}
 use Rattle.cli_files.proofs.ServingLemmas.{writing_apart}
 use Rattle.cli_files.proofs.working.ExportingWork.work.Goals as goal

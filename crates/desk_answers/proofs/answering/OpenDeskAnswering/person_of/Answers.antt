@@ -1,4 +1,4 @@
-use Rattle.desk_store.specs.Desks.{ShowsDesk}
+use Rattle.store_desk.specs.Desks.{ShowsDesk}
 use Rattle.desk_answers.proofs.DeskLemmas.{one_person}
 use Rattle.desk_answers.proofs.answering.OpenDeskAnswering.person_of.Goals as goal
 

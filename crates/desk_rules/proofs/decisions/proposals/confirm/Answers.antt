@@ -1,6 +1,6 @@
 use Rattle.std.proofs.Common.{rules, refl}
 use Rattle.std.specs.Prelude.{bytes_eq}
-use Rattle.desk_texts.specs.Callers.{caller_name}
+use Rattle.desk_types.specs.Callers.{caller_name}
 use Rattle.desk_rules.proofs.AnswerLemmas.{early_only}
 use Rattle.desk_rules.proofs.ForeseenRefusals.{answered_only}
 use Rattle.desk_rules.proofs.ProposalDecisions.{confirms, confirms_none, open_one, refuses_confirm, refuses_early}

@@ -1,6 +1,6 @@
 use Rattle.std.proofs.Common.{[], ◌∷◌}
-use Rattle.desk_texts.specs.Callers.{caller_name}
-use Rattle.desk_texts.specs.declared.reply.Reply.TheVariants as replies
+use Rattle.desk_types.specs.Callers.{caller_name}
+use Rattle.desk_types.specs.declared.reply.Reply.TheVariants as replies
 use Rattle.desk_history.specs.declared.write.Write.TheVariants as writes
 use Rattle.desk_rules.specs.DecisionSteps.{open_row}
 use Rattle.desk_rules.proofs.AnswerLemmas.{proposes_only}

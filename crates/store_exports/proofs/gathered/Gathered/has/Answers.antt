@@ -1,7 +1,7 @@
 use Rattle.std.proofs.Common.{sym, ap, ◌∙◌}
 use Rattle.std.specs.Prelude.{bytes_eq}
 use Rattle.std.specs.List.{list_any}
-use Rattle.desk_texts.specs.Certificates.{WholeCertificate}
+use Rattle.desk_types.specs.Certificates.{WholeCertificate}
 use Rattle.desk_history.specs.Calls.{is_among}
 use Rattle.desk_exports.proofs.ShimLemmas.{any_map}
 use Rattle.store_exports.specs.Gathering.{Bodies}

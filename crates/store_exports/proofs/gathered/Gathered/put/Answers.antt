@@ -1,10 +1,10 @@
 use Rattle.std.proofs.Common.{ap, flat_map, subst, ◌∙◌}
 use Rattle.std.specs.Prelude.{OnErr, OnOk}
 use Rattle.std.specs.Io.KnownBytes.{Appends}
-use Rattle.desk_bytes.specs.Output.{AppendsBeginning}
+use Rattle.base.specs.Output.{AppendsBeginning}
 use Rattle.siglist.specs.SignatureLists.{spelling}
 use Rattle.siglist.specs.Writing.{x509_row}
-use Rattle.desk_texts.specs.Certificates.{WholeCertificate}
+use Rattle.desk_types.specs.Certificates.{WholeCertificate}
 use Rattle.store_exports.specs.Gathering.{bodies_text}
 use Rattle.store_exports.proofs.WrittenLemmas.{mapped_text}
 use Rattle.store_exports.proofs.gathered.Gathered.put.Goals as goal

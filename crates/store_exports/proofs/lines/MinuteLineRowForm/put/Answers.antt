@@ -1,6 +1,6 @@
 use Rattle.std.proofs.Common.{sym, subst}
-use Rattle.desk_bytes.specs.Output.{AppendsBeginning}
-use Rattle.desk_bytes.proofs.OutputLemmas.{OnErr-fact}
+use Rattle.base.specs.Output.{AppendsBeginning}
+use Rattle.base.proofs.OutputLemmas.{OnErr-fact}
 use Rattle.store_exports.specs.Lines.{Columns, columns_row, line}
 use Rattle.store_exports.specs.Rows.{BeginsRow, IsPart}
 use Rattle.store_exports.proofs.lines.MinuteLineRowForm.put.Goals as goal

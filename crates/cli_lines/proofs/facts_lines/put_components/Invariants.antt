@@ -1,7 +1,0 @@
-use Rattle.std.proofs.Common.{drop}
-use Rattle.cli_lines.specs.Listings.{component_line}
-use Rattle.cli_lines.proofs.EachLemmas.{Lined}
-use Rattle.cli_lines.proofs.facts_lines.put_components.Given as goal
-
-abbrev pub invariant-loop-component : goal.invariant-loop-component
-invariant-loop-component g l = Lined component_line l.components (drop l.component-index l.components) (g.W.Write.contents l.fn.writer) (g.W.Write.contents l.writer)

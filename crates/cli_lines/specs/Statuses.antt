@@ -1,8 +1,0 @@
--- The exit status of a fault.
-use Rattle.std.specs.Prelude.{ℕ, if◌then◌else◌}
-use Rattle.desk_bytes.specs.Refusals.{is_device}
-use Rattle.desk_bytes.specs.declared.refusal.Refusal.{Refusal}
-
--- own: 3 if a device failed, 1 if the input was refused
-abbrev pub status_of : Refusal → ℕ
-status_of refusal = if is_device refusal then 3 else 1

@@ -1,6 +1,0 @@
-use Rattle.desk_bytes.proofs.OrderLemmas.{IsArranged-sorted}
-use Rattle.desk_bytes.proofs.order.arrange.Goals as goal
-
-pub returns-clause-arranged : goal.returns-clause-arranged
-returns-clause-arranged c =
-    IsArranged-sorted _ _ _ c.sort_unstable.ensures.permutation c.sort_unstable.ensures.sorted c.dedup.ensures.filtered

@@ -1,8 +1,0 @@
-use Rattle.std.proofs.Common.{take}
-use Rattle.std.specs.Io.KnownBytes.{Appends}
-use Rattle.desk_bytes.specs.Output.{joined}
-use Rattle.desk_bytes.proofs.output.put_each.Given as goal
-
-abbrev pub invariant-loop-slice : goal.invariant-loop-slice
-invariant-loop-slice g l =
-    Appends (g.W.Write.contents l.fn.writer) (g.W.Write.contents l.writer) (joined (take l.slice-index l.slices))

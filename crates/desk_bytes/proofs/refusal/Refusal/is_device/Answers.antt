@@ -1,8 +1,0 @@
-use Rattle.std.proofs.Common.{rules}
-use Rattle.desk_bytes.proofs.refusal.Refusal.is_device.Goals as goal
-
-pub returns-in-Read : goal.returns-in-Read
-returns-in-Read c = search rules
-
-pub returns-in-Short : goal.returns-in-Short
-returns-in-Short c = search rules

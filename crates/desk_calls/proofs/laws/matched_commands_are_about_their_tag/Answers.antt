@@ -1,5 +1,0 @@
-use Rattle.desk_calls.proofs.LawLemmas as lemmas
-use Rattle.desk_calls.proofs.laws.matched_commands_are_about_their_tag.Goals as goal
-
-pub returns : goal.returns
-returns c = lemmas.matched_commands_are_about_their_tag

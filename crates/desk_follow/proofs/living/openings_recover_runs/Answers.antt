@@ -1,5 +1,0 @@
-use Rattle.desk_follow.proofs.LivingLemmas.{recovers_runs}
-use Rattle.desk_follow.proofs.living.openings_recover_runs.Goals as goal
-
-pub returns : goal.returns
-returns g c = recovers_runs g.S.Store c.args.conn.now c.args.desk.now

@@ -1,5 +1,0 @@
-use Rattle.desk_follow.proofs.LivingLemmas.{runs_may_stop}
-use Rattle.desk_follow.proofs.living.refused_runs_make_lives.Goals as goal
-
-pub returns : goal.returns
-returns g c = runs_may_stop g.S.Store c.args.conn.now

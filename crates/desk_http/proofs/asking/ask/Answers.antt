@@ -1,4 +1,0 @@
-use Rattle.desk_http.proofs.asking.ask.Goals as goal
-
-pub returns-in-Get-clause-cause : goal.returns-in-Get-clause-cause
-returns-in-Get-clause-cause g c = c.ask_to_read.ensures.cause c.args.intake.now

@@ -1,4 +1,0 @@
-use Rattle.desk_http.proofs.reading.ask_as.Goals as goal
-
-pub returns-in-Err-clause-cause : goal.returns-in-Err-clause-cause
-returns-in-Err-clause-cause g c = c.in-Err.ensures.cause c.args.intake.now

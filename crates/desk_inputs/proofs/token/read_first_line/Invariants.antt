@@ -1,0 +1,14 @@
+use Rattle.std.proofs.Common.{◌-◌, length}
+use Rattle.std.specs.Io.KnownBytes.{Consumes}
+use Rattle.base.proofs.LineLemmas.{HasNoLf}
+use Rattle.desk_inputs.specs.declared.token.TheConstants.{MOST_READ}
+use Rattle.desk_inputs.proofs.token.read_first_line.Given as goal
+
+abbrev pub invariant-loop-reader : goal.invariant-loop-reader
+invariant-loop-reader g l = record {
+  taken : Consumes (g.R.Read.remaining l.initial.reader) (g.R.Read.remaining l.reader) l.line.items;
+  plain : HasNoLf l.line.items;
+}
+
+abbrev pub decreases-loop-reader : goal.decreases-loop-reader
+decreases-loop-reader g l = MOST_READ - length l.line.items

@@ -1,5 +1,0 @@
-use Rattle.std.proofs.Common.{rules}
-use Rattle.desk_service.proofs.imports.fault.ImportFault.place.Goals as goal
-
-pub returns-in-Record : goal.returns-in-Record
-returns-in-Record c = search rules

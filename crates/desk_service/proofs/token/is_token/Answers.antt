@@ -1,5 +1,0 @@
-use Rattle.std.proofs.Common.{rules}
-use Rattle.desk_service.proofs.token.is_token.Goals as goal
-
-pub returns-then-text-lt-SHORTEST_TOKEN : goal.returns-then-text-lt-SHORTEST_TOKEN
-returns-then-text-lt-SHORTEST_TOKEN c = search rules

@@ -1,8 +1,0 @@
-use Rattle.desk_store.proofs.LivingLemmas.{goes_on_living, may_end_living}
-use Rattle.desk_store.proofs.living.calls_make_lives.Goals as goal
-
-pub returns-clause-on : goal.returns-clause-on
-returns-clause-on g c = goes_on_living g.S.Store c.args.old.now c.args.new.now
-
-pub returns-clause-end : goal.returns-clause-end
-returns-clause-end g c = may_end_living g.S.Store c.args.old.now c.args.new.now

@@ -1,6 +1,0 @@
-use Rattle.std.proofs.Common.{All, take}
-use Rattle.desk_texts.specs.Commands.{IsDigest}
-use Rattle.desk_texts.proofs.form_keeping.show_digests.Given as goal
-
-abbrev pub invariant-loop-digest : goal.invariant-loop-digest
-invariant-loop-digest l = All IsDigest (take l.digest-index l.digests)

@@ -1,5 +1,0 @@
-use Rattle.desk_texts.proofs.ReadingLemmas.{text_of-same}
-use Rattle.desk_texts.proofs.laws.command_texts_differ.Goals as goal
-
-pub returns : goal.returns
-returns c = text_of-same

@@ -1,5 +1,0 @@
-use Rattle.desk_texts.proofs.ReplyLemmas.{reply_text_of-same}
-use Rattle.desk_texts.proofs.laws.reply_texts_differ.Goals as goal
-
-pub returns : goal.returns
-returns c = reply_text_of-same

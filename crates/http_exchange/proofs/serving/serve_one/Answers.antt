@@ -1,0 +1,26 @@
+use Rattle.std.proofs.Common.{rules}
+use Rattle.http_exchange.proofs.SendLemmas.{answered_is_told, response_is_told, unwritten_is_told}
+use Rattle.http_exchange.proofs.serving.serve_one.Goals as goal
+
+pub returns-in-Ok-Some-clause-serves : goal.returns-in-Ok-Some-clause-serves
+returns-in-Ok-Some-clause-serves g c =
+    let input = g.R.Read.remaining c.args.reader.now in
+    let held = g.W.Write.contents c.args.writer.now in
+    let holds = g.W.Write.contents c.send_answer.new.writer in
+    let old = g.D.AnswersCalls.shows c.args.desk.now in
+    let new = g.D.AnswersCalls.shows c.answer_input.new.desk in
+    let failed = g.D.AnswersCalls.failed c.answer_input.new.desk in
+    let served = rw c.in-Ok-Some.field-0-is at c.in-Ok-Some.ensures.answered in
+    record {
+      answered = λ clean.
+          answered_is_told input held holds old new failed c.in-Ok-Some.answer c.send_answer.result (served clean) c.send_answer.ensures;
+      nothing = search rules;
+      unread = search rules;
+      unwritten = λ clean.
+          unwritten_is_told input held holds old new failed c.in-Ok-Some.answer c.send_answer.result (served clean) c.send_answer.ensures;
+      some = search rules;
+      response = response_is_told held holds c.in-Ok-Some.answer c.send_answer.result c.send_answer.ensures;
+      poisons = search rules;
+      closed = search rules;
+      before = search rules;
+    }

@@ -1,0 +1,137 @@
+use Rattle.std.proofs.Common.{inl, inr}
+use Rattle.desk_exports.specs.Readings.{IsShownTo}
+use Rattle.store_desk.proofs.ReadingLemmas.{gives_for, refuses_for, shut_for}
+use Rattle.store_desk.proofs.desk.Desk.read.Goals as goal
+
+pub returns-in-Requests-clause-shown : goal.returns-in-Requests-clause-shown
+returns-in-Requests-clause-shown g c =
+    gives_for g.S.Store c.args.self.now c.show_requests.new.self c.show_requests.result (λ z owner cs. IsShownTo g.L.RequestList.holds owner cs c.args.person z) c.args.reading _ c.in-Requests.is
+    c.show_requests.ensures.shown
+
+pub returns-in-Requests-clause-refused : goal.returns-in-Requests-clause-refused
+returns-in-Requests-clause-refused g c =
+    refuses_for g.S.Store c.args.self.now c.show_requests.new.self c.show_requests.result (λ z owner cs. IsShownTo g.L.RequestList.holds owner cs c.args.person z) c.args.reading _ c.in-Requests.is
+    c.show_requests.ensures.refused
+
+pub returns-in-Request-clause-shown : goal.returns-in-Request-clause-shown
+returns-in-Request-clause-shown g c =
+    gives_for g.S.Store c.args.self.now c.show_request.new.self c.show_request.result (λ z owner cs. IsShownTo g.L.RequestList.holds owner cs c.args.person z) c.args.reading _ c.in-Request.is
+    c.show_request.ensures.shown
+
+pub returns-in-Request-clause-refused : goal.returns-in-Request-clause-refused
+returns-in-Request-clause-refused g c =
+    refuses_for g.S.Store c.args.self.now c.show_request.new.self c.show_request.result (λ z owner cs. IsShownTo g.L.RequestList.holds owner cs c.args.person z) c.args.reading _ c.in-Request.is
+    c.show_request.ensures.refused
+
+pub returns-in-Proposals-clause-shown : goal.returns-in-Proposals-clause-shown
+returns-in-Proposals-clause-shown g c =
+    gives_for g.S.Store c.args.self.now c.show_proposals.new.self c.show_proposals.result (λ z owner cs. IsShownTo g.L.RequestList.holds owner cs c.args.person z) c.args.reading _ c.in-Proposals.is
+    c.show_proposals.ensures.shown
+
+pub returns-in-Proposals-clause-refused : goal.returns-in-Proposals-clause-refused
+returns-in-Proposals-clause-refused g c =
+    refuses_for g.S.Store c.args.self.now c.show_proposals.new.self c.show_proposals.result (λ z owner cs. IsShownTo g.L.RequestList.holds owner cs c.args.person z) c.args.reading _ c.in-Proposals.is
+    c.show_proposals.ensures.refused
+
+pub returns-in-Proposal-clause-shown : goal.returns-in-Proposal-clause-shown
+returns-in-Proposal-clause-shown g c =
+    gives_for g.S.Store c.args.self.now c.show_proposal.new.self c.show_proposal.result (λ z owner cs. IsShownTo g.L.RequestList.holds owner cs c.args.person z) c.args.reading _ c.in-Proposal.is
+    c.show_proposal.ensures.shown
+
+pub returns-in-Proposal-clause-refused : goal.returns-in-Proposal-clause-refused
+returns-in-Proposal-clause-refused g c =
+    refuses_for g.S.Store c.args.self.now c.show_proposal.new.self c.show_proposal.result (λ z owner cs. IsShownTo g.L.RequestList.holds owner cs c.args.person z) c.args.reading _ c.in-Proposal.is
+    c.show_proposal.ensures.refused
+
+pub returns-in-Impact-clause-shown : goal.returns-in-Impact-clause-shown
+returns-in-Impact-clause-shown g c =
+    gives_for g.S.Store c.args.self.now c.show_impact.new.self c.show_impact.result (λ z owner cs. IsShownTo g.L.RequestList.holds owner cs c.args.person z) c.args.reading _ c.in-Impact.is
+    c.show_impact.ensures.shown
+
+pub returns-in-Impact-clause-refused : goal.returns-in-Impact-clause-refused
+returns-in-Impact-clause-refused g c =
+    refuses_for g.S.Store c.args.self.now c.show_impact.new.self c.show_impact.result (λ z owner cs. IsShownTo g.L.RequestList.holds owner cs c.args.person z) c.args.reading _ c.in-Impact.is
+    c.show_impact.ensures.refused
+
+pub returns-in-RequestsFrom-clause-shown : goal.returns-in-RequestsFrom-clause-shown
+returns-in-RequestsFrom-clause-shown g c =
+    gives_for g.S.Store c.args.self.now c.show_requests_from.new.self c.show_requests_from.result (λ z owner cs. IsShownTo g.L.RequestList.holds owner cs c.args.person z) c.args.reading _ c.in-RequestsFrom.is
+    c.show_requests_from.ensures.shown
+
+pub returns-in-RequestsFrom-clause-refused : goal.returns-in-RequestsFrom-clause-refused
+returns-in-RequestsFrom-clause-refused g c =
+    refuses_for g.S.Store c.args.self.now c.show_requests_from.new.self c.show_requests_from.result (λ z owner cs. IsShownTo g.L.RequestList.holds owner cs c.args.person z) c.args.reading _ c.in-RequestsFrom.is
+    c.show_requests_from.ensures.refused
+
+pub returns-in-ProposalsFrom-clause-shown : goal.returns-in-ProposalsFrom-clause-shown
+returns-in-ProposalsFrom-clause-shown g c =
+    gives_for g.S.Store c.args.self.now c.show_proposals_from.new.self c.show_proposals_from.result (λ z owner cs. IsShownTo g.L.RequestList.holds owner cs c.args.person z) c.args.reading _ c.in-ProposalsFrom.is
+    c.show_proposals_from.ensures.shown
+
+pub returns-in-ProposalsFrom-clause-refused : goal.returns-in-ProposalsFrom-clause-refused
+returns-in-ProposalsFrom-clause-refused g c =
+    refuses_for g.S.Store c.args.self.now c.show_proposals_from.new.self c.show_proposals_from.result (λ z owner cs. IsShownTo g.L.RequestList.holds owner cs c.args.person z) c.args.reading _ c.in-ProposalsFrom.is
+    c.show_proposals_from.ensures.refused
+
+pub returns-in-Waiting-clause-shown : goal.returns-in-Waiting-clause-shown
+returns-in-Waiting-clause-shown g c =
+    gives_for g.S.Store c.args.self.now c.show_waiting.new.self c.show_waiting.result (λ z owner cs. IsShownTo g.L.RequestList.holds owner cs c.args.person z) c.args.reading _ c.in-Waiting.is
+    c.show_waiting.ensures.shown
+
+pub returns-in-Waiting-clause-refused : goal.returns-in-Waiting-clause-refused
+returns-in-Waiting-clause-refused g c =
+    refuses_for g.S.Store c.args.self.now c.show_waiting.new.self c.show_waiting.result (λ z owner cs. IsShownTo g.L.RequestList.holds owner cs c.args.person z) c.args.reading _ c.in-Waiting.is
+    c.show_waiting.ensures.refused
+
+pub returns-in-Changes-clause-shown : goal.returns-in-Changes-clause-shown
+returns-in-Changes-clause-shown g c =
+    gives_for g.S.Store c.args.self.now c.show_changes.new.self c.show_changes.result (λ z owner cs. IsShownTo g.L.RequestList.holds owner cs c.args.person z) c.args.reading _ c.in-Changes.is
+    c.show_changes.ensures.shown
+
+pub returns-in-Changes-clause-refused : goal.returns-in-Changes-clause-refused
+returns-in-Changes-clause-refused g c =
+    refuses_for g.S.Store c.args.self.now c.show_changes.new.self c.show_changes.result (λ z owner cs. IsShownTo g.L.RequestList.holds owner cs c.args.person z) c.args.reading _ c.in-Changes.is
+    c.show_changes.ensures.refused
+
+pub returns-in-Level-clause-shown : goal.returns-in-Level-clause-shown
+returns-in-Level-clause-shown g c =
+    gives_for g.S.Store c.args.self.now c.show_export-in-Level.new.self c.show_export-in-Level.result (λ z owner cs. IsShownTo g.L.RequestList.holds owner cs c.args.person z) c.args.reading _ c.in-Level.is
+    c.show_export-in-Level.ensures.shown
+
+pub returns-in-Report-clause-shown : goal.returns-in-Report-clause-shown
+returns-in-Report-clause-shown g c =
+    gives_for g.S.Store c.args.self.now c.show_report.new.self c.show_report.result (λ z owner cs. IsShownTo g.L.RequestList.holds owner cs c.args.person z) c.args.reading _ c.in-Report.is
+    c.show_report.ensures.shown
+
+pub returns-in-Report-clause-refused : goal.returns-in-Report-clause-refused
+returns-in-Report-clause-refused g c =
+    refuses_for g.S.Store c.args.self.now c.show_report.new.self c.show_report.result (λ z owner cs. IsShownTo g.L.RequestList.holds owner cs c.args.person z) c.args.reading _ c.in-Report.is
+    c.show_report.ensures.refused
+
+pub returns-in-Minutes-clause-shown : goal.returns-in-Minutes-clause-shown
+returns-in-Minutes-clause-shown g c =
+    gives_for g.S.Store c.args.self.now c.show_minutes.new.self c.show_minutes.result (λ z owner cs. IsShownTo g.L.RequestList.holds owner cs c.args.person z) c.args.reading _ c.in-Minutes.is
+    c.show_minutes.ensures.shown
+
+pub returns-in-Minutes-clause-refused : goal.returns-in-Minutes-clause-refused
+returns-in-Minutes-clause-refused g c =
+    refuses_for g.S.Store c.args.self.now c.show_minutes.new.self c.show_minutes.result (λ z owner cs. IsShownTo g.L.RequestList.holds owner cs c.args.person z) c.args.reading _ c.in-Minutes.is
+    c.show_minutes.ensures.refused
+
+pub returns-clause-shown : goal.returns-clause-shown
+returns-clause-shown g c =
+    gives_for g.S.Store c.args.self.now c.show_people.new.self c.show_people.result (λ z owner cs. IsShownTo g.L.RequestList.holds owner cs c.args.person z) c.args.reading _ c.in-People.is
+    c.show_people.ensures.shown
+
+pub returns-clause-refused : goal.returns-clause-refused
+returns-clause-refused g c =
+    refuses_for g.S.Store c.args.self.now c.show_people.new.self c.show_people.result (λ z owner cs. IsShownTo g.L.RequestList.holds owner cs c.args.person z) c.args.reading _ c.in-People.is
+    c.show_people.ensures.refused
+
+pub returns-in-Report-clause-closed : goal.returns-in-Report-clause-closed
+returns-in-Report-clause-closed g c was =
+    let shut = c.show_report.ensures.closed was in (
+      shut_for c.show_report.result (λ z owner cs. IsShownTo g.L.RequestList.holds owner cs c.args.person z) c.args.reading _ c.in-Report.is
+          (elim shut.0 [ inl reopen ↦ inl reopen | inr each ↦ inr (λ owner cs. each cs) ]),
+      shut.1,
+    )

@@ -1,0 +1,36 @@
+//! A desk in a store of SQLite, and the state that any number of its lives leave to the next
+//! opening.
+#![tactic(auto)]
+
+mod acting;
+mod answers;
+mod asking;
+mod closing;
+mod desk;
+mod exports;
+mod founding;
+mod impacts;
+mod laws;
+mod living;
+mod officer_questions;
+mod officers;
+mod opening;
+mod own_lines;
+mod part_questions;
+mod questions;
+mod reading;
+mod remains;
+mod restarting;
+mod showing;
+mod showing_parts;
+mod shown_each;
+mod shown_parts;
+
+pub use desk::Desk;
+pub use desk_exports::RequestList;
+pub use laws::notes_allow_a_desk;
+pub use living::{calls_make_lives, openings_begin_lives};
+pub use remains::Remains;
+pub use restarting::{reopen, restart, stop};
+pub use store_counts::{Counts, KindCounts, ListCounts, RequestCounts};
+pub use store_shown::Waits;

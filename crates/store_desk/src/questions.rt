@@ -1,0 +1,230 @@
+//! The questions that a desk is asked.
+ghost use Rattle.std.specs.Prelude.{◌≡◌, ⊤, filter, map, IfErr};
+ghost use Rattle.store_counts.specs.Counts.{CountTables};
+ghost use Rattle.desk_history.specs.People.{has_token, people};
+ghost use Rattle.desk_history.specs.Shown.{GivesRequest, IsGiven, requests_for};
+ghost use Rattle.desk_history.specs.Shown.{proposals_for, shown_proposal};
+ghost use Rattle.desk_history.specs.Tables.{tables};
+ghost use Rattle.store_decision_rows.specs.lists.Lists.{HoldsNoOther};
+ghost use Rattle.store_reads.specs.People.{IsOneOf};
+ghost use Rattle.store_reads.specs.Reads.{listed};
+ghost use Rattle.desk_rules.specs.Shown.{Shows};
+ghost use Rattle.desk_rules.specs.Views.{ShowsLists, keys_of};
+ghost use Rattle.desk_exports.specs.Readings.{HoldsShown};
+ghost use Rattle.store_shown.specs.Telling.{IsOfficerRefusal, IsReaderRefusal, IsRequestRefusal};
+ghost use Rattle.store_decision_rows.specs.remembered.Current.{IsCurrent};
+ghost use Rattle.store_decision_rows.specs.sizes.Sizes.{AreRight};
+ghost use Rattle.desk_types.specs.declared.caller.Caller.TheVariants as callers;
+ghost use Rattle.store_decision_rows.specs.Named.{HoldsNoRowBeyond};
+
+use crate::asking::Question;
+use base::{Digest, Refusal};
+use desk_exports::RequestList;
+use desk_rules::{CallRef, ListView, View};
+use desk_types::{Facts, Person, PersonName, Proposal, RequestNumber, ShownRequest};
+use sqlite::{Alter, Transaction};
+use std::alloc::Global;
+use std::marker::PhantomData;
+use store_counts::{Counts, counts};
+use store_reads::person_of_token;
+use store_shown::{proposals_of, request, requests_of};
+use store_decision_rows::{KnownSizes, Remembered, list_view, view};
+
+/// Who has the token of this SHA-256?
+#[derive(Drop)]
+pub(crate) struct WhoHas<'a> {
+    pub(crate) token: &'a Digest,
+}
+
+impl<'a> Question for WhoHas<'a> {
+    type Answer = Option<Person>;
+
+    ghost tells = { λ q person owner cs.
+        filter (has_token q.token.now) (tables owner cs).people ≡ listed person };
+
+    ghost bounds = { λ _ _. ⊤ };
+
+    fn read<S: Alter>(
+        &self,
+        alloc: Global,
+        tx: &mut Transaction<'_, S>,
+    ) -> Result<Option<Person>, Refusal> {
+        match person_of_token(alloc, tx, self.token) {
+            Ok(person) => Ok(person),
+            Err(fault) => Err(fault.refusal()),
+        }
+    }
+}
+
+/// How many of everything are there?
+#[derive(Drop)]
+pub(crate) struct HowMany;
+
+impl Question for HowMany {
+    type Answer = Counts;
+
+    ghost tells = { λ _ n owner cs. CountTables n (tables owner cs) };
+
+    ghost bounds = { λ _ _. ⊤ };
+
+    fn read<S: Alter>(
+        &self,
+        _alloc: Global,
+        tx: &mut Transaction<'_, S>,
+    ) -> Result<Counts, Refusal> {
+        match counts(tx) {
+            Ok(counted) => Ok(counted),
+            Err(fault) => Err(fault.refusal()),
+        }
+    }
+}
+
+/// Which rows of the lists does a verdict on this image need?
+#[derive(Drop)]
+pub(crate) struct ListsFor<'a> {
+    pub(crate) facts: &'a Facts,
+}
+
+impl<'a> Question for ListsFor<'a> {
+    type Answer = ListView;
+
+    ghost tells = { λ q v owner cs. ShowsLists v (tables owner cs) (keys_of q.facts.now) };
+
+    ghost bounds = { λ q v. HoldsNoOther v (keys_of q.facts.now) };
+
+    fn read<S: Alter>(
+        &self,
+        alloc: Global,
+        tx: &mut Transaction<'_, S>,
+    ) -> Result<ListView, Refusal> {
+        match list_view(alloc, tx, self.facts) {
+            Ok(view) => Ok(view),
+            Err(fault) => Err(fault.refusal()),
+        }
+    }
+}
+
+/// Which rows does a decision on this call need, where this is remembered?
+#[derive(Drop)]
+pub(crate) struct RowsFor<'a> {
+    pub(crate) remembered: Remembered,
+    pub(crate) call: CallRef<'a>,
+}
+
+/// The rows that a decision on a call needs, and the sizes that are known since they were read.
+#[derive(Drop)]
+pub(crate) struct Viewed {
+    pub(crate) view: View,
+    pub(crate) sizes: KnownSizes,
+}
+
+impl<'a> Question for RowsFor<'a> {
+    type Answer = Viewed;
+
+    ghost tells = { λ q viewed owner cs. IsCurrent q.remembered (tables owner cs)
+        → Shows viewed.view (tables owner cs) q.call × AreRight viewed.sizes (tables owner cs) };
+
+    ghost bounds = { λ q viewed. HoldsNoRowBeyond viewed.view q.call };
+
+    fn read<S: Alter>(
+        &self,
+        alloc: Global,
+        tx: &mut Transaction<'_, S>,
+    ) -> Result<Viewed, Refusal> {
+        let mut remembered = self.remembered.without_person();
+        match view(alloc, tx, &mut remembered, &self.call) {
+            Ok(view) => Ok(Viewed {
+                view,
+                sizes: remembered.sizes,
+            }),
+            Err(failure) => Err(failure),
+        }
+    }
+}
+
+/// What is the person of this name, who may be the one who is remembered, shown of the request of
+/// this number?
+#[derive(Drop)]
+pub(crate) struct OneRequest<'a> {
+    pub(crate) person: &'a Option<Person>,
+    pub(crate) name: &'a PersonName,
+    pub(crate) number: RequestNumber,
+}
+
+impl<'a> Question for OneRequest<'a> {
+    type Answer = Result<ShownRequest, Refusal>;
+
+    ghost tells = { λ q given owner cs. IsOneOf q.person.now (people cs)
+        → GivesRequest cs (callers.Person q.name.now) q.number given };
+
+    ghost bounds = { λ _ given. IfErr given IsRequestRefusal };
+
+    fn read<S: Alter>(
+        &self,
+        alloc: Global,
+        tx: &mut Transaction<'_, S>,
+    ) -> Result<Result<ShownRequest, Refusal>, Refusal> {
+        match request(alloc, tx, self.person.as_ref(), self.name, self.number) {
+            Ok(given) => Ok(given),
+            Err(fault) => Err(fault.refusal()),
+        }
+    }
+}
+
+/// Which requests is the person of this name, who may be the one who is remembered, shown? They are
+/// collected into an `L`.
+#[derive(Drop)]
+pub(crate) struct AllRequests<'a, L> {
+    pub(crate) person: &'a Option<Person>,
+    pub(crate) name: &'a PersonName,
+    pub(crate) list: PhantomData<L>,
+}
+
+impl<'a, L: RequestList + Drop> Question for AllRequests<'a, L> {
+    type Answer = Result<L, Refusal>;
+
+    ghost tells = { λ q given owner cs. IsOneOf q.person.now (people cs)
+        → IsGiven (requests_for cs (callers.Person q.name.now)) given
+        (HoldsShown L.RequestList.holds) };
+
+    ghost bounds = { λ _ given. IfErr given IsReaderRefusal };
+
+    fn read<S: Alter>(
+        &self,
+        alloc: Global,
+        tx: &mut Transaction<'_, S>,
+    ) -> Result<Result<L, Refusal>, Refusal> {
+        match requests_of(alloc, tx, self.person.as_ref(), self.name) {
+            Ok(given) => Ok(given),
+            Err(fault) => Err(fault.refusal()),
+        }
+    }
+}
+
+/// Which proposals is the person of this name, who may be the one who is remembered, shown?
+#[derive(Drop)]
+pub(crate) struct AllProposals<'a> {
+    pub(crate) person: &'a Option<Person>,
+    pub(crate) name: &'a PersonName,
+}
+
+impl<'a> Question for AllProposals<'a> {
+    type Answer = Result<Vec<Proposal>, Refusal>;
+
+    ghost tells = { λ q given owner cs. IsOneOf q.person.now (people cs)
+        → IsGiven (proposals_for cs (callers.Person q.name.now)) given
+        (λ ps shown. shown.items ≡ map (shown_proposal cs) ps) };
+
+    ghost bounds = { λ _ given. IfErr given IsOfficerRefusal };
+
+    fn read<S: Alter>(
+        &self,
+        alloc: Global,
+        tx: &mut Transaction<'_, S>,
+    ) -> Result<Result<Vec<Proposal>, Refusal>, Refusal> {
+        match proposals_of(alloc, tx, self.person.as_ref(), self.name) {
+            Ok(given) => Ok(given),
+            Err(fault) => Err(fault.refusal()),
+        }
+    }
+}

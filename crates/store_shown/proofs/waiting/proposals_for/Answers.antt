@@ -1,0 +1,20 @@
+use Rattle.std.proofs.Common.{◌≡◌, Some, length, subst, arith}
+use Rattle.sqlite.specs.Held.{state}
+use Rattle.sqlite.specs.State.{HasCleanDisk}
+use Rattle.store_reads.specs.Reads.{ReadsTables}
+use Rattle.store_reads.proofs.TellsLemmas.{tells_so, tells_then}
+use Rattle.store_proposals.specs.Numbered.{ListsUpTo}
+use Rattle.store_shown.proofs.waiting.proposals_for.Goals as goal
+
+pub returns-clause-value : goal.returns-clause-value
+returns-clause-value g c clean inside =
+    let n = c.in_ok-count.count in
+    let s0 = state g.S.Store c.args.tx.now.conn.now in
+    let s1 = state g.S.Store c.count.new.tx.conn.now in
+    let s2 = state g.S.Store c.proposals_after.new.tx.conn.now in
+    let c1 : HasCleanDisk s1 = omega (arith, c.in_ok-list.ensures.survives.clean, clean) in
+    let first : ReadsTables (λ t. n ≡ length t.proposals) s0 s1 = c.in_ok-count.ensures.value c1 inside in
+    let second : ReadsTables (λ t. ListsUpTo (Some c.args.officer.now) t 0 n n c.in_ok-list.list.items) s1 s2 = c.in_ok-list.ensures.value clean first.kept.inside in
+    tells_so s0 s2 (λ t. (n ≡ length t.proposals) × ListsUpTo (Some c.args.officer.now) t 0 n n c.in_ok-list.list.items) (λ t. ListsUpTo (Some c.args.officer.now) t 0 (length t.proposals) (length t.proposals) c.in_ok-list.list.items)
+    (λ t both. subst (λ m. ListsUpTo (Some c.args.officer.now) t 0 m m c.in_ok-list.list.items) both.0 both.1)
+    (tells_then s0 s1 s2 (λ t. n ≡ length t.proposals) (λ t. ListsUpTo (Some c.args.officer.now) t 0 n n c.in_ok-list.list.items) first second)

@@ -1,8 +1,0 @@
-use Rattle.store_views.proofs.SizeLemmas.{known_at_first, right_at_first}
-use Rattle.store_views.proofs.sizes.known.KnownSizes.of_no_calls.Goals as goal
-
-pub returns-clause-known : goal.returns-clause-known
-returns-clause-known c = known_at_first
-
-pub returns-clause-right : goal.returns-clause-right
-returns-clause-right c = right_at_first
