@@ -7,6 +7,7 @@ pub mod Formed
 pub mod Forms
 pub mod Imports
 pub mod Items
+pub mod Naming
 pub mod Raising
 pub mod Reading
 pub mod ReplyTexts
