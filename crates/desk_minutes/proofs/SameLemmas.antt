@@ -7,6 +7,7 @@ use Rattle.std.proofs.Math.Path.{fun_ext}
 use Rattle.sbat.specs.declared.component.Component.{Component}
 use Rattle.base.specs.declared.refusal.Refusal.TheVariants as refusals
 use Rattle.desk_types.specs.Callers.{caller_name}
+use Rattle.desk_types.specs.Naming.{person_added}
 use Rattle.desk_types.specs.declared.caller.Caller.{Caller}
 use Rattle.desk_types.specs.declared.command.Call.{Call}
 use Rattle.desk_types.specs.declared.command.Command.{Command}
@@ -21,7 +22,7 @@ use Rattle.desk_history.specs.Forces.{InForce, forced}
 use Rattle.desk_history.specs.Level.{generations, greatest, is_above, is_sbat, level, names, raises_some, stamp}
 use Rattle.desk_history.specs.Limits.{is_within, most_calls, most_level_components, most_listed, most_people, most_proposals, most_requests, most_revoked_certificates, most_revoked_digests}
 use Rattle.desk_history.specs.Listing.{has_entry, is_listed, listed}
-use Rattle.desk_history.specs.People.{added_by, people}
+use Rattle.desk_history.specs.People.{people}
 use Rattle.desk_history.specs.Proposals.{Proposal, is_proposal, outcome_by, outcomes, proposal_state, proposals}
 use Rattle.desk_history.specs.Refusals.{add_refusal, confirm_by, confirm_refusal, drop_refusal, explain_refusal, force_refusal, import_refusal, is_known, is_one_of, is_theirs, may_give, own_refusal, raise_refusal, refuse_if, return_refusal, review_refusal, withdraw_refusal}
 use Rattle.desk_history.specs.Replies.{minutes}
@@ -77,7 +78,7 @@ module _ (a b : History) (h : calls_of a ≡ calls_of b) where
   length_same = length_calls a ∙ ap length h ∙ sym (length_calls b)
 
   pub people_same : people a ≡ people b
-  people_same = found (λ c. added_by c.command)
+  people_same = found (λ c. person_added c.command)
 
   pub requests_same : requests a ≡ requests b
   requests_same =

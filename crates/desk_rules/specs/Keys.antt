@@ -1,85 +1,22 @@
--- Keys of a command: people, a request or a proposal, and keys of the lists.
-use Rattle.std.specs.Prelude.{ℕ, List, [], ◌∷◌, map, Option, Some, None}
+-- Keys of a command: people, and keys of the lists.
+use Rattle.std.specs.Prelude.{ℕ, List, [], ◌∷◌, map, Option}
 use Rattle.std.specs.Option.{option_map_or}
 use Rattle.desk_types.specs.declared.command.Command.{Command}
 use Rattle.desk_types.specs.declared.command.Command.TheVariants as command
 use Rattle.desk_types.specs.declared.kind.ListedKind.{ListedKind}
 use Rattle.desk_types.specs.declared.kind.ListedKind.TheVariants as kinds
 use Rattle.desk_types.specs.Imports.{Imported}
+use Rattle.desk_types.specs.Naming.{person_added}
 use Rattle.desk_history.specs.declared.rows.ProposalRow.{ProposalRow}
 use Rattle.desk_rules.specs.Views.{EntryKeys, Keys, component_names, keys_of, no_entries, revoked_keys}
 
 -- the names of people that a command has
 abbrev pub people_named : Command → List (List ℕ)
-people_named (command.AddPerson p) = p.name ∷ []
-people_named (command.Submit _) = []
-people_named (command.Review _) = []
-people_named (command.Withdraw _) = []
-people_named (command.Return _) = []
-people_named (command.ListCertificate _) = []
-people_named (command.ListDigest _) = []
-people_named (command.Unlist _) = []
-people_named (command.RevokeDigest _) = []
-people_named (command.RevokeCertificate _) = []
-people_named (command.RaiseLevel _) = []
-people_named (command.ImportRevocations _) = []
-people_named (command.Confirm _) = []
-people_named (command.Drop _) = []
-people_named (command.Explain _) = []
+people_named c = option_map_or (λ p. p.name ∷ []) (person_added c) []
 
 -- the tokens of people that a command has
 abbrev pub tokens_named : Command → List (List ℕ)
-tokens_named (command.AddPerson p) = p.token ∷ []
-tokens_named (command.Submit _) = []
-tokens_named (command.Review _) = []
-tokens_named (command.Withdraw _) = []
-tokens_named (command.Return _) = []
-tokens_named (command.ListCertificate _) = []
-tokens_named (command.ListDigest _) = []
-tokens_named (command.Unlist _) = []
-tokens_named (command.RevokeDigest _) = []
-tokens_named (command.RevokeCertificate _) = []
-tokens_named (command.RaiseLevel _) = []
-tokens_named (command.ImportRevocations _) = []
-tokens_named (command.Confirm _) = []
-tokens_named (command.Drop _) = []
-tokens_named (command.Explain _) = []
-
--- the request that a command names
-abbrev pub request_named : Command → Option ℕ
-request_named (command.Review b) = Some b.request
-request_named (command.Withdraw k) = Some k
-request_named (command.Return h) = Some h.request
-request_named (command.AddPerson _) = None
-request_named (command.Submit _) = None
-request_named (command.ListCertificate _) = None
-request_named (command.ListDigest _) = None
-request_named (command.Unlist _) = None
-request_named (command.RevokeDigest _) = None
-request_named (command.RevokeCertificate _) = None
-request_named (command.RaiseLevel _) = None
-request_named (command.ImportRevocations _) = None
-request_named (command.Confirm _) = None
-request_named (command.Drop _) = None
-request_named (command.Explain _) = None
-
--- the proposal that a command names
-abbrev pub proposal_named : Command → Option ℕ
-proposal_named (command.Confirm k) = Some k
-proposal_named (command.Drop k) = Some k
-proposal_named (command.Explain e) = Some e.proposal
-proposal_named (command.AddPerson _) = None
-proposal_named (command.Submit _) = None
-proposal_named (command.Review _) = None
-proposal_named (command.Withdraw _) = None
-proposal_named (command.Return _) = None
-proposal_named (command.ListCertificate _) = None
-proposal_named (command.ListDigest _) = None
-proposal_named (command.Unlist _) = None
-proposal_named (command.RevokeDigest _) = None
-proposal_named (command.RevokeCertificate _) = None
-proposal_named (command.RaiseLevel _) = None
-proposal_named (command.ImportRevocations _) = None
+tokens_named c = option_map_or (λ p. p.token ∷ []) (person_added c) []
 
 -- a key of this kind
 abbrev pub one_key : ListedKind → List ℕ → EntryKeys

@@ -9,6 +9,7 @@ use Rattle.desk_history.specs.declared.rows.Entry.{Entry}
 use Rattle.desk_history.specs.declared.rows.ProposalRow.{ProposalRow}
 use Rattle.desk_history.specs.declared.rows.RequestRow.{RequestRow}
 use Rattle.desk_types.specs.Callers.{caller_name}
+use Rattle.desk_types.specs.Naming.{proposal_named, request_named}
 use Rattle.desk_history.specs.People.{has_name, has_token}
 use Rattle.desk_history.specs.Requests.{votes_on}
 use Rattle.desk_history.specs.Calls.{History}
@@ -18,7 +19,7 @@ use Rattle.desk_rules.specs.declared.view.View.{View}
 use Rattle.desk_history.specs.Runs.{has_key, is_legal}
 use Rattle.desk_rules.specs.declared.view.LimitedTable.{LimitedTable}
 use Rattle.desk_rules.specs.declared.view.LimitedTable.TheVariants as counted
-use Rattle.desk_rules.specs.Keys.{keys_with, people_named, proposal_named, request_named, tokens_named}
+use Rattle.desk_rules.specs.Keys.{keys_with, people_named, tokens_named}
 use Rattle.desk_rules.specs.Views.{Keys, ShowsLists}
 
 -- the row of the request of this number

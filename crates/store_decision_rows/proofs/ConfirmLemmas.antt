@@ -7,12 +7,13 @@ use Rattle.std.proofs.lemmas.List.Elements.{All-cons, All-head, All-nil, All-tai
 use Rattle.desk_types.specs.Callers.{caller_name}
 use Rattle.desk_types.specs.Commands.{IsCommand}
 use Rattle.desk_types.specs.Forms.{is_key, is_person_name}
+use Rattle.desk_types.specs.Naming.{person_added, proposal_named, request_named}
 use Rattle.desk_types.specs.declared.command.Command.{Command}
 use Rattle.desk_types.specs.declared.command.Command.TheVariants as command
 use Rattle.desk_types.specs.declared.command.Person.{Person}
 use Rattle.desk_history.specs.Calls.{History}
 use Rattle.desk_history.specs.Formed.{IsHistory, IsItem, IsReadable}
-use Rattle.desk_history.specs.People.{added_by, has_name, people}
+use Rattle.desk_history.specs.People.{has_name, people}
 use Rattle.desk_history.specs.Replies.{minutes}
 use Rattle.desk_history.specs.Runs.{has_key}
 use Rattle.desk_history.specs.Tables.{Tables, tables}
@@ -20,7 +21,7 @@ use Rattle.desk_history.specs.declared.rows.Minute.{Minute}
 use Rattle.desk_history.specs.declared.rows.ProposalRow.{ProposalRow}
 use Rattle.desk_history.specs.declared.rows.RequestRow.{RequestRow}
 use Rattle.desk_history.specs.declared.rows.VoteRow.{VoteRow}
-use Rattle.desk_rules.specs.Keys.{keys_with, proposal_named, request_named}
+use Rattle.desk_rules.specs.Keys.{keys_with}
 use Rattle.desk_rules.specs.Shown.{Shows, is_proposal_row, keys_asked, may_put, rows_in, size_in}
 use Rattle.desk_rules.specs.Views.{ShowsLists}
 use Rattle.desk_rules.specs.declared.view.LimitedTable.{LimitedTable}
@@ -42,7 +43,7 @@ none_passes p P fails (x ∷ xs) all =
 abbrev IsNamed : Person → Type 0
 IsNamed p = is_person_name p.name ≡ true
 
-with_added : (c : Command) → IsCommand c → (ps : List Person) → All IsNamed ps → All IsNamed (cons_option (added_by c) ps)
+with_added : (c : Command) → IsCommand c → (ps : List Person) → All IsNamed ps → All IsNamed (cons_option (person_added c) ps)
 with_added (command.AddPerson p) f ps all = All-cons IsNamed p ps f.0 all
 with_added _ f ps all = all
 

@@ -5,16 +5,17 @@ use Rattle.std.specs.List.Sorted.{IsPermutation}
 use Rattle.std.proofs.lemmas.Bool.Decides.{nat_tests}
 use Rattle.std.proofs.lemmas.Slice.Eq.{bytes_eq-Decides}
 use Rattle.std.proofs.lemmas.List.Elements.{All-append, All-head, All-tail, All-weaker}
+use Rattle.desk_types.specs.Naming.{person_added, proposal_named}
 use Rattle.desk_types.specs.declared.command.Command.{Command}
 use Rattle.desk_types.specs.declared.command.Command.TheVariants as command
 use Rattle.desk_types.specs.declared.command.Person.{Person}
 use Rattle.desk_history.specs.declared.rows.ProposalRow.{ProposalRow}
 use Rattle.desk_history.specs.declared.rows.RequestRow.{RequestRow}
 use Rattle.desk_history.specs.declared.rows.VoteRow.{VoteRow}
-use Rattle.desk_history.specs.People.{added_by, has_name, has_token}
+use Rattle.desk_history.specs.People.{has_name, has_token}
 use Rattle.desk_history.specs.Requests.{votes_on}
 use Rattle.desk_history.specs.Tables.{Tables}
-use Rattle.desk_rules.specs.Keys.{keys_with, people_named, proposal_named, row_keys, tokens_named}
+use Rattle.desk_rules.specs.Keys.{keys_with, people_named, row_keys, tokens_named}
 use Rattle.desk_rules.specs.Shown.{is_proposal_row, is_request_row}
 use Rattle.store_reads.specs.Reads.{listed}
 use Rattle.store_decision_rows.specs.Named.{is_named_person}
@@ -23,39 +24,11 @@ use Rattle.store_decision_rows.proofs.FindLemmas.{AreAmong, after, all_among, ar
 
 -- ---- the keys of people
 
-no_person : (c : Command) → added_by c ≡ None → (people_named c ≡ []) × (tokens_named c ≡ [])
-no_person (command.AddPerson p) e = absurd cc
-no_person (command.Submit _) e = (refl, refl)
-no_person (command.Review _) e = (refl, refl)
-no_person (command.Withdraw _) e = (refl, refl)
-no_person (command.Return _) e = (refl, refl)
-no_person (command.ListCertificate _) e = (refl, refl)
-no_person (command.ListDigest _) e = (refl, refl)
-no_person (command.Unlist _) e = (refl, refl)
-no_person (command.RevokeDigest _) e = (refl, refl)
-no_person (command.RevokeCertificate _) e = (refl, refl)
-no_person (command.RaiseLevel _) e = (refl, refl)
-no_person (command.ImportRevocations _) e = (refl, refl)
-no_person (command.Confirm _) e = (refl, refl)
-no_person (command.Drop _) e = (refl, refl)
-no_person (command.Explain _) e = (refl, refl)
+no_person : (c : Command) → person_added c ≡ None → (people_named c ≡ []) × (tokens_named c ≡ [])
+no_person c none = rw none (refl, refl)
 
-one_person : (c : Command) (p : Person) → added_by c ≡ Some p → (people_named c ≡ p.name ∷ []) × (tokens_named c ≡ p.token ∷ [])
-one_person (command.AddPerson q) p e = let same : q ≡ p = cc in (ap (λ (x : Person). x.name ∷ []) same, ap (λ (x : Person). x.token ∷ []) same)
-one_person (command.Submit _) p e = absurd cc
-one_person (command.Review _) p e = absurd cc
-one_person (command.Withdraw _) p e = absurd cc
-one_person (command.Return _) p e = absurd cc
-one_person (command.ListCertificate _) p e = absurd cc
-one_person (command.ListDigest _) p e = absurd cc
-one_person (command.Unlist _) p e = absurd cc
-one_person (command.RevokeDigest _) p e = absurd cc
-one_person (command.RevokeCertificate _) p e = absurd cc
-one_person (command.RaiseLevel _) p e = absurd cc
-one_person (command.ImportRevocations _) p e = absurd cc
-one_person (command.Confirm _) p e = absurd cc
-one_person (command.Drop _) p e = absurd cc
-one_person (command.Explain _) p e = absurd cc
+one_person : (c : Command) (p : Person) → person_added c ≡ Some p → (people_named c ≡ p.name ∷ []) × (tokens_named c ≡ p.token ∷ [])
+one_person c p one = rw one (refl, refl)
 
 the_key : (name n : List ℕ) → IsTrue (bytes_eq name n || false) → n ≡ name
 the_key name n h = sym ((bytes_eq-Decides name n).0 (go (bytes_eq name n) h))
@@ -81,7 +54,7 @@ module _ (t : Tables) (caller : List ℕ) (c : Command) (own : Option Person) (r
   among_own = are_of_table (has_name caller) t.people own read
 
   -- where the command adds nobody
-  pub shows_caller : (rows : List Person) → added_by c ≡ None → rows ≡ listed own → ShowsPeople rows t caller c
+  pub shows_caller : (rows : List Person) → person_added c ≡ None → rows ≡ listed own → ShowsPeople rows t caller c
   shows_caller rows none is =
       let keys = no_person c none in
       record {
@@ -91,7 +64,7 @@ module _ (t : Tables) (caller : List ℕ) (c : Command) (own : Option Person) (r
       }
 
   -- where it adds a person
-  pub shows_people : (rows : List Person) (p : Person) (namesake holder : Option Person) → added_by c ≡ Some p
+  pub shows_people : (rows : List Person) (p : Person) (namesake holder : Option Person) → person_added c ≡ Some p
       → filter (has_name p.name) t.people ≡ listed namesake → filter (has_token p.token) t.people ≡ listed holder
       → rows ≡ (listed own ++ listed namesake) ++ listed holder → ShowsPeople rows t caller c
   shows_people rows p namesake holder added named held is =
@@ -146,18 +119,18 @@ module _ (caller : List ℕ) (c : Command) where
   own_asked rows all = All-weaker (λ p. IsTrue (has_name caller p)) Asked
       (λ p h. first_of (has_name caller p) (list_any (λ name. has_name name p) (people_named c)) (list_any (λ token. has_token token p) (tokens_named c)) h) rows all
 
-  pub name_asked : (q : Person) (rows : List Person) → added_by c ≡ Some q → All (λ p. IsTrue (has_name q.name p)) rows → All Asked rows
+  pub name_asked : (q : Person) (rows : List Person) → person_added c ≡ Some q → All (λ p. IsTrue (has_name q.name p)) rows → All Asked rows
   name_asked q rows added all = All-weaker (λ p. IsTrue (has_name q.name p)) Asked
       (λ p h. second_of (has_name caller p) (list_any (λ name. has_name name p) (people_named c)) (list_any (λ token. has_token token p) (tokens_named c))
       (subst (λ l. IsTrue (list_any (λ name. has_name name p) l)) (sym (one_person c q added).0) (alone (has_name q.name p) h))) rows all
 
-  pub token_asked : (q : Person) (rows : List Person) → added_by c ≡ Some q → All (λ p. IsTrue (has_token q.token p)) rows → All Asked rows
+  pub token_asked : (q : Person) (rows : List Person) → person_added c ≡ Some q → All (λ p. IsTrue (has_token q.token p)) rows → All Asked rows
   token_asked q rows added all = All-weaker (λ p. IsTrue (has_token q.token p)) Asked
       (λ p h. third_of (has_name caller p) (list_any (λ name. has_name name p) (people_named c)) (list_any (λ token. has_token token p) (tokens_named c))
       (subst (λ l. IsTrue (list_any (λ token. has_token token p) l)) (sym (one_person c q added).1) (alone (has_token q.token p) h))) rows all
 
   -- all of them
-  pub people_asked : (rows : List Person) (q : Person) (own namesake holder : List Person) → added_by c ≡ Some q
+  pub people_asked : (rows : List Person) (q : Person) (own namesake holder : List Person) → person_added c ≡ Some q
       → All (λ p. IsTrue (has_name caller p)) own → All (λ p. IsTrue (has_name q.name p)) namesake → All (λ p. IsTrue (has_token q.token p)) holder
       → rows ≡ (own ++ namesake) ++ holder → All Asked rows
   people_asked rows q own namesake holder added a b d is =

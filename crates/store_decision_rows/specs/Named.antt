@@ -2,12 +2,13 @@
 use Rattle.std.specs.Prelude.{◌≡◌, ℕ, Bool, ◌||◌, List, Some, All, IsTrue, find}
 use Rattle.std.specs.List.{list_any}
 use Rattle.desk_types.specs.Callers.{caller_name}
+use Rattle.desk_types.specs.Naming.{proposal_named, request_named}
 use Rattle.desk_types.specs.declared.command.Call.{Call}
 use Rattle.desk_types.specs.declared.command.Command.{Command}
 use Rattle.desk_types.specs.declared.command.Person.{Person}
 use Rattle.desk_history.specs.People.{has_name, has_token}
 use Rattle.desk_history.specs.Runs.{has_key}
-use Rattle.desk_rules.specs.Keys.{keys_with, people_named, proposal_named, request_named, tokens_named}
+use Rattle.desk_rules.specs.Keys.{keys_with, people_named, tokens_named}
 use Rattle.desk_rules.specs.Shown.{is_proposal_row}
 use Rattle.desk_rules.specs.declared.view.View.{View}
 use Rattle.store_decision_rows.specs.lists.Lists.{HoldsNoOther}

@@ -2,6 +2,7 @@
 use Rattle.std.specs.Prelude.{◌≡◌, ℕ, List, [], Option, Some, None, find, not, bytes_eq, All, IsPermutation, IsTrue, is_some}
 use Rattle.std.specs.List.{list_any}
 use Rattle.desk_types.specs.Callers.{caller_name}
+use Rattle.desk_types.specs.Naming.{proposal_named, request_named}
 use Rattle.desk_types.specs.declared.command.Call.{Call}
 use Rattle.desk_types.specs.declared.command.Command.{Command}
 use Rattle.desk_types.specs.declared.command.Person.{Person}
@@ -14,7 +15,7 @@ use Rattle.desk_history.specs.Requests.{votes_on}
 use Rattle.desk_history.specs.Runs.{has_key}
 use Rattle.desk_history.specs.Tables.{Tables}
 use Rattle.desk_rules.specs.declared.view.LimitedTable.{LimitedTable}
-use Rattle.desk_rules.specs.Keys.{people_named, proposal_named, request_named, tokens_named}
+use Rattle.desk_rules.specs.Keys.{people_named, tokens_named}
 use Rattle.desk_rules.specs.Shown.{is_proposal_row, is_request_row, may_put}
 use Rattle.store_proposals.specs.Reading.{IsStamped}
 use Rattle.store_decision_rows.specs.sizes.Sizes.{known}

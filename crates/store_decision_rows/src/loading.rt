@@ -1,11 +1,10 @@
 //! The rows that a call names, except those of the lists.
 ghost use Rattle.std.specs.Prelude.{◌≡◌, ℕ, All, IfOk, IsSome, IsTrue, Some, find, option_copied};
 ghost use Rattle.desk_history.specs.Formed.{IsReadable};
-ghost use Rattle.desk_history.specs.People.{added_by};
 ghost use Rattle.desk_history.specs.Runs.{has_key};
 ghost use Rattle.store_reads.specs.People.{IsOneOf};
 ghost use Rattle.store_reads.specs.Reads.{ReadsTables};
-ghost use Rattle.desk_rules.specs.Keys as spec;
+ghost use Rattle.desk_types.specs.Naming as spec;
 ghost use Rattle.desk_rules.specs.Shown.{is_proposal_row};
 ghost use Rattle.store_sql.specs.States.{DoesInside, CommitsNothing, Spares, StaysInside};
 ghost use Rattle.desk_types.specs.Callers.{caller_name};
@@ -18,7 +17,7 @@ use crate::keyed;
 use crate::pushing::push_some;
 use desk_history::{Minute, ProposalRow, RequestRow, VoteRow};
 use desk_rules::CallRef;
-use desk_types::{Caller, Command, Key, Person, ProposalNumber, RequestNumber};
+use desk_types::{Caller, Command, Key, Person, ProposalNumber};
 use sqlite::{Alter, Transaction};
 use std::alloc::Global;
 use store_reads::ReadFault;
@@ -31,74 +30,6 @@ pub(crate) struct CallRows {
     pub(crate) requests: Vec<RequestRow>,
     pub(crate) votes: Vec<VoteRow>,
     pub(crate) proposals: Vec<ProposalRow>,
-}
-
-/// The person whom the command adds.
-fn person_added(command: &Command) -> Option<&Person>
-    ensures { option_copied result ≡ added_by command.now }
-{
-    match command {
-        Command::AddPerson(person) => Some(person),
-        Command::Submit(_)
-        | Command::Review(_)
-        | Command::Withdraw(_)
-        | Command::Return(_)
-        | Command::ListCertificate(_)
-        | Command::ListDigest(_)
-        | Command::Unlist(_)
-        | Command::RevokeDigest(_)
-        | Command::RevokeCertificate(_)
-        | Command::RaiseLevel(_)
-        | Command::ImportRevocations(_)
-        | Command::Confirm(_)
-        | Command::Drop(_)
-        | Command::Explain(_) => None,
-    }
-}
-
-/// The number of the request that the command names.
-fn request_of(command: &Command) -> Option<RequestNumber>
-    ensures { result ≡ spec.request_named command.now }
-{
-    match command {
-        Command::Review(ballot) => Some(ballot.request),
-        Command::Withdraw(number) => Some(*number),
-        Command::Return(returned) => Some(returned.request),
-        Command::AddPerson(_)
-        | Command::Submit(_)
-        | Command::ListCertificate(_)
-        | Command::ListDigest(_)
-        | Command::Unlist(_)
-        | Command::RevokeDigest(_)
-        | Command::RevokeCertificate(_)
-        | Command::RaiseLevel(_)
-        | Command::ImportRevocations(_)
-        | Command::Confirm(_)
-        | Command::Drop(_)
-        | Command::Explain(_) => None,
-    }
-}
-
-/// The number of the proposal that the command names.
-fn proposal_of(command: &Command) -> Option<ProposalNumber>
-    ensures { result ≡ spec.proposal_named command.now }
-{
-    match command {
-        Command::Confirm(number) | Command::Drop(number) => Some(*number),
-        Command::Explain(explanation) => Some(explanation.proposal),
-        Command::AddPerson(_)
-        | Command::Submit(_)
-        | Command::Review(_)
-        | Command::Withdraw(_)
-        | Command::Return(_)
-        | Command::ListCertificate(_)
-        | Command::ListDigest(_)
-        | Command::Unlist(_)
-        | Command::RevokeDigest(_)
-        | Command::RevokeCertificate(_)
-        | Command::RaiseLevel(_)
-        | Command::ImportRevocations(_) => None,
-    }
 }
 
 /// The row of the proposal of this number.
@@ -118,7 +49,7 @@ pub(crate) fn named_row<'a>(
     ensures { (k : ℕ) → spec.proposal_named command.now ≡ Some k → option_copied result
         ≡ find (is_proposal_row k) proposals.now }
 {
-    match proposal_of(command) {
+    match command.proposal_named() {
         None => None,
         Some(number) => row_numbered(proposals, number),
     }
@@ -145,7 +76,7 @@ fn people_of<S: Alter>(
     let own = keyed::caller(alloc, tx, remembered_person, caller.name())?;
     let mut people = Vec::new(alloc);
     push_some(&mut people, own)?;
-    let Some(person) = person_added(command) else {
+    let Some(person) = command.person_added() else {
         return Ok(people);
     };
     let namesake = keyed::person(alloc, tx, person.name.as_str())?;
@@ -194,7 +125,7 @@ fn requests_of<S: Alter>(
     ensures survives { Spares S.Store tx.old.conn.now tx.new.conn.now }
 {
     let mut rows = Vec::new(alloc);
-    let Some(number) = request_of(command) else {
+    let Some(number) = command.request_named() else {
         return Ok(rows);
     };
     let row = keyed::request(alloc, tx, number)?;
@@ -216,7 +147,7 @@ fn votes_of<S: Alter>(
     ensures kept { CommitsNothing S.Store tx.old.conn.now tx.new.conn.now }
     ensures survives { Spares S.Store tx.old.conn.now tx.new.conn.now }
 {
-    let Some(number) = request_of(command) else {
+    let Some(number) = command.request_named() else {
         return Ok(Vec::new(alloc));
     };
     let rows = keyed::votes(alloc, tx, number)?;
@@ -241,7 +172,7 @@ pub(crate) fn proposals_of<S: Alter>(
     ensures survives { Spares S.Store tx.old.conn.now tx.new.conn.now }
 {
     let mut rows = Vec::new(alloc);
-    let Some(number) = proposal_of(command) else {
+    let Some(number) = command.proposal_named() else {
         return Ok(rows);
     };
     let row = keyed::proposal(alloc, tx, number)?;

@@ -1,6 +1,6 @@
 use Rattle.std.proofs.Common.{rules}
 use Rattle.std.specs.Prelude.{option_copied}
-use Rattle.desk_rules.specs.Keys.{proposal_named}
+use Rattle.desk_types.specs.Naming.{proposal_named}
 use Rattle.store_decision_rows.proofs.NamedLemmas.{found_by}
 use Rattle.store_decision_rows.proofs.loading.named_row.Goals as goal
 

@@ -3,8 +3,9 @@ use Rattle.std.specs.Prelude.{option_copied}
 use Rattle.sqlite.specs.Held.{state}
 use Rattle.sqlite.specs.State.{HasCleanDisk}
 use Rattle.desk_types.specs.Callers.{caller_name}
+use Rattle.desk_types.specs.Naming.{person_added}
 use Rattle.store_schema.specs.rows.Contents.{contents}
-use Rattle.desk_history.specs.People.{added_by, has_name}
+use Rattle.desk_history.specs.People.{has_name}
 use Rattle.store_sql.proofs.StopLemmas.{changes_then}
 use Rattle.store_schema.specs.Tables.{desk_layout}
 use Rattle.store_reads.specs.People.{IsOneOf}
@@ -22,7 +23,7 @@ returns-in_default-clause-value g c clean inside =
     let own = c.in_ok-own.own in
     let rows = c.push_some.new.rows.items in
     let is : rows ≡ listed own = subst (λ l. rows ≡ l ++ listed own) c.new-people.ensures.items c.in_ok-push_some.ensures in
-    let none : added_by c.args.command.now ≡ None = search (rules, c.person_added.ensures, c.in_default.is) in
+    let none : person_added c.args.command.now ≡ None = search (rules, c.person_added.ensures, c.in_default.is) in
     let kept = option_copied c.args.remembered_person in
     tells_so first last (λ t. IsOneOf kept t.people → filter (has_name caller) t.people ≡ listed own) (λ t. IsOneOf kept t.people → ShowsPeople rows t caller c.args.command.now)
     (λ t read known. shows_caller t caller c.args.command.now own (read known) rows none is)
@@ -46,7 +47,7 @@ returns-clause-value g c clean inside =
     let a = subst (λ n. ReadsTables (λ t. IsOneOf (option_copied c.args.remembered_person) t.people → filter (has_name n) t.people ≡ listed own) s0 s1) c.name.ensures (c.in_ok-own.ensures.value c1 inside) in
     let b = subst (λ n. ReadsTables (λ t. filter (has_name n) t.people ≡ listed namesake) s1 s2) c.as_str.ensures.value (c.in_ok-namesake.ensures.value c2 a.kept.inside) in
     let d = c.in_ok-holder.ensures.value clean b.kept.inside in
-    let some : added_by command ≡ Some person = search (rules, c.person_added.ensures, c.in-Some.is) in
+    let some : person_added command ≡ Some person = search (rules, c.person_added.ensures, c.in-Some.is) in
     let all = put_thrice c.new-people.result.items c.push_some.new.rows.items c.push_some-2.new.rows.items rows (listed own) (listed namesake) (listed holder)
     c.new-people.ensures.items c.in_ok-push_some.ensures c.in_ok-push_some-2.ensures c.in_ok-push_some-3.ensures in
     record {
@@ -63,7 +64,7 @@ returns-clause-only g c =
     let own = c.in_ok-own.own in
     let namesake = c.in_ok-namesake.namesake in
     let holder = c.in_ok-holder.holder in
-    let some : added_by c.args.command.now ≡ Some person = search (rules, c.person_added.ensures, c.in-Some.is) in
+    let some : person_added c.args.command.now ≡ Some person = search (rules, c.person_added.ensures, c.in-Some.is) in
     people_asked (caller_name c.args.caller.now) c.args.command.now c.push_some-3.new.rows.items person (listed own) (listed namesake) (listed holder) some
     (subst (λ n. All (λ p. IsTrue (has_name n p)) (listed own)) c.name.ensures c.in_ok-own.ensures.only)
     (subst (λ n. All (λ p. IsTrue (has_name n p)) (listed namesake)) c.as_str.ensures.value c.in_ok-namesake.ensures.only)

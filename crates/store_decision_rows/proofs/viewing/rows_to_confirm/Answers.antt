@@ -6,7 +6,7 @@ use Rattle.sqlite.specs.State.{HasCleanDisk}
 use Rattle.store_schema.specs.rows.Contents.{contents}
 use Rattle.store_sql.proofs.StopLemmas.{changes_then}
 use Rattle.store_schema.specs.Tables.{desk_layout}
-use Rattle.desk_rules.specs.Keys.{proposal_named}
+use Rattle.desk_types.specs.Naming.{proposal_named}
 use Rattle.desk_rules.specs.Shown.{is_proposal_row}
 use Rattle.desk_rules.specs.Views.{ShowsLists}
 use Rattle.store_decision_rows.specs.lists.Lists.{HoldsNoOther}
