@@ -4,6 +4,7 @@ use Rattle.std.specs.Prelude.{if◌then◌else◌, is_some, ok_or, option_map}
 use Rattle.std.specs.Result.{result_map_both}
 use Rattle.base.specs.declared.refusal.Refusal.{Refusal}
 use Rattle.base.specs.declared.refusal.Refusal.TheVariants as refusals
+use Rattle.desk_types.specs.Naming.{subject_named}
 use Rattle.desk_types.specs.declared.caller.Caller.TheVariants as callers
 use Rattle.desk_types.specs.declared.command.Call.{TaskAsked as Ruled}
 use Rattle.desk_types.specs.declared.command.Command.{Command}
@@ -30,13 +31,13 @@ use Rattle.http_calls.specs.Answers.{AnswersCall, AnswersImage, AnswersTask, Ans
 use Rattle.http_calls.specs.Bodies.{ReadsImage}
 use Rattle.http_calls.specs.Desks.{is_text_of}
 use Rattle.http_calls.specs.Laws.{MatchedAreAboutTheirTag, RefusalsChangeNothing, RepeatsMatch, ShownTagsStay, SubmittersAreAnsweredByOwn, TagsStay}
-use Rattle.http_calls.specs.Tags.{is_about_other, is_mismatch, is_other, named_by, proposal_tag, request_tag, subject_of, tag_shown}
+use Rattle.http_calls.specs.Tags.{is_about_other, is_mismatch, is_other, proposal_tag, request_tag, subject_of, tag_shown}
 use Rattle.http_calls.specs.declared.answers.TaskAnswer.{TaskAnswer}
 use Rattle.http_calls.specs.declared.call.TaskAsked.{TaskAsked}
 use Rattle.http_calls.specs.declared.call.Task.{Task}
 use Rattle.http_calls.specs.declared.call.Task.TheVariants as task
-use Rattle.http_calls.specs.declared.subject.Subject.{Subject}
-use Rattle.http_calls.specs.declared.subject.Subject.TheVariants as subject
+use Rattle.desk_types.specs.declared.naming.Subject.{Subject}
+use Rattle.desk_types.specs.declared.naming.Subject.TheVariants as subject
 use Rattle.http_calls.proofs.OwnLemmas.{changes_alike, waiting_alike}
 use Rattle.http_calls.proofs.TagLemmas as tags
 
@@ -128,7 +129,7 @@ accepted cs c changed =
 
 -- what a command that was accepted is about is shown to its caller
 module _ (cs : History) (name key : List ℕ) (later : History) (changed : later ≢ cs) where
-  taken_shown : (read : Result Command Refused) (a : TaskAnswer) (s : Subject) → ((given : Command) → read ≡ Ok given → named_by given ≡ Some s)
+  taken_shown : (read : Result Command Refused) (a : TaskAnswer) (s : Subject) → ((given : Command) → read ≡ Ok given → subject_named given ≡ Some s)
       → IsTaken cs name key read a later → is_some (tag_shown cs name s) ≡ true
   taken_shown (Err refused) a s names h = absurd (changed h.1)
   taken_shown (Ok given) a s names h =
@@ -140,9 +141,9 @@ module _ (cs : History) (name key : List ℕ) (later : History) (changed : later
   returned_shown k image read a reads h = taken_shown read a (subject.Request k) (λ given is. by read given reads is) h
     where
       by : (read : Result Command Refused) (given : Command) → ReadsImage (λ x. command.Return (record { request = k; facts = x })) image read → read ≡ Ok given
-          → named_by given ≡ Some (subject.Request k)
+          → subject_named given ≡ Some (subject.Request k)
       by (Err refused) given reads is = absurd (let no : ⊥ = cc in no)
-      by (Ok found) given reads is = ap named_by (sym (let same : found ≡ given = cc in same)) ∙ ap named_by reads.2
+      by (Ok found) given reads is = ap subject_named (sym (let same : found ≡ given = cc in same)) ∙ ap subject_named reads.2
 
 task_shown : (owner : List ℕ) (cs : History) (p : Person) (t : Task) (a : TaskAnswer) (later : History) (s : Subject) → later ≢ cs → subject_of t ≡ Some s
     → AnswersTask owner cs p t a later → is_some (tag_shown cs p.name s) ≡ true
@@ -154,7 +155,7 @@ task_shown owner cs p (task.Image (asked.Return key k) image) a later s changed 
 task_shown owner cs p (task.Image asked.Verdict image) a later s changed is h = no_some s is
 task_shown owner cs p (task.Image asked.Facts image) a later s changed is h = no_some s is
 task_shown owner cs p (task.Command key given) a later s changed is h =
-    taken_shown cs p.name key later changed (Ok given) a s (λ other e. ap named_by (sym (let same : given ≡ other = cc in same)) ∙ is) h
+    taken_shown cs p.name key later changed (Ok given) a s (λ other e. ap subject_named (sym (let same : given ≡ other = cc in same)) ∙ is) h
 task_shown owner cs p (task.Bytes key format bytes) a later s changed is h = no_some s is
 
 -- the tag that its caller sent is shown

@@ -6,6 +6,7 @@ use Rattle.std.specs.Option.{option_map_or}
 use Rattle.std.specs.Result.{result_map_both}
 use Rattle.base.specs.declared.refusal.Refusal.TheVariants as refusals
 use Rattle.desk_types.specs.Callers.{caller_name}
+use Rattle.desk_types.specs.Naming.{person_added, subject_named}
 use Rattle.desk_types.specs.declared.caller.Caller.TheVariants as callers
 use Rattle.desk_types.specs.declared.command.Command.{Command}
 use Rattle.desk_types.specs.declared.command.Command.TheVariants as command
@@ -16,7 +17,7 @@ use Rattle.desk_types.specs.declared.role.Role.{Role}
 use Rattle.desk_types.specs.declared.role.Role.TheVariants as roles
 use Rattle.desk_types.specs.declared.state.State.{State}
 use Rattle.desk_history.specs.Calls.{GoesOnFrom, History}
-use Rattle.desk_history.specs.People.{added_by, has_name, has_token, people, person}
+use Rattle.desk_history.specs.People.{has_name, has_token, people, person}
 use Rattle.desk_history.specs.Proposals.{Proposal as Proposed, proposal, proposal_state}
 use Rattle.desk_history.specs.ProposalShown.{shown_to_officer}
 use Rattle.desk_history.specs.Refusals.{confirm_refusal, drop_refusal, explain_refusal, may_give, own_refusal, return_refusal, review_refusal, withdraw_by, withdraw_refusal}
@@ -34,9 +35,9 @@ use Rattle.desk_history.proofs.RefusalLemmas.{no_refusal, unrefused}
 use Rattle.desk_history.proofs.RunLemmas.{newest}
 use Rattle.desk_history.proofs.ShownLemmas.{found_passes}
 use Rattle.desk_exports.specs.Tags.{tag_of}
-use Rattle.http_calls.specs.Tags.{is_other, named_by, proposal_tag, request_tag, tag_at, tag_shown}
-use Rattle.http_calls.specs.declared.subject.Subject.{Subject}
-use Rattle.http_calls.specs.declared.subject.Subject.TheVariants.{Proposal, Request}
+use Rattle.http_calls.specs.Tags.{is_other, proposal_tag, request_tag, tag_at, tag_shown}
+use Rattle.desk_types.specs.declared.naming.Subject.{Subject}
+use Rattle.desk_types.specs.declared.naming.Subject.TheVariants.{Proposal, Request}
 use Rattle.http_calls.proofs.NumberLemmas.{found_passing, passing, request_stays}
 
 -- ---- what a person is shown, by the person and by what there is
@@ -142,7 +143,7 @@ new_name cs name p own =
     none_found (has_name p.name) (people cs) (none_right (bytes_eq p.name (codes "console")) (list_any (has_name p.name) (people cs)) named)
 
 still_known : (cs : History) (who name : List ℕ) (given : Command) (q : Person) → own_refusal cs who given ≡ None → person cs name ≡ Some q
-    → find (has_name name) (cons_option (added_by given) (people cs)) ≡ Some q
+    → find (has_name name) (cons_option (person_added given) (people cs)) ≡ Some q
 still_known cs who name (command.AddPerson p) q own is =
     elim (bytes_eq name p.name) as (λ b. bytes_eq name p.name ≡ b → (if b then Some p else person cs name) ≡ Some q) [
       | true ↦ λ e. no_some q (sym (new_name cs who p own) ∙ (ap (λ n. person cs n) (sym (same_text name p.name e)) ∙ is))
@@ -287,7 +288,7 @@ module _ (cs : History) (name : List ℕ) where
   shown_as : (s x : Subject) → Some x ≡ Some s → is_some (shown_by cs (person cs name) x) ≡ true → is_some (shown_by cs (person cs name) s) ≡ true
   shown_as s x e h = subst (λ y. is_some (shown_by cs (person cs name) y) ≡ true) (some_same x s e) h
 
-  shown_to_giver : (given : Command) (s : Subject) → named_by given ≡ Some s → may_give cs (callers.Person name) given ≡ true → own_refusal cs name given ≡ None
+  shown_to_giver : (given : Command) (s : Subject) → subject_named given ≡ Some s → may_give cs (callers.Person name) given ≡ true → own_refusal cs name given ≡ None
       → is_some (shown_by cs (person cs name) s) ≡ true
   shown_to_giver (command.Review b) s e may own =
       shown_as s (Request b.request) e (reviews (person cs name) (request cs b.request) (state cs b.request) (votes_on (votes cs) b.request) name may own)
@@ -304,7 +305,7 @@ module _ (cs : History) (name : List ℕ) where
   shown_to_giver _ s e may own = no_some s e
 
   -- the caller of a command that isn't refused is shown what it is about
-  pub given_is_shown : (given : Command) (s : Subject) → named_by given ≡ Some s → may_give cs (callers.Person name) given ≡ true → own_refusal cs name given ≡ None
+  pub given_is_shown : (given : Command) (s : Subject) → subject_named given ≡ Some s → may_give cs (callers.Person name) given ≡ true → own_refusal cs name given ≡ None
       → is_some (tag_shown cs name s) ≡ true
   given_is_shown given s e may own = ap is_some (tag_shown_by cs name s) ∙ shown_to_giver given s e may own
 

@@ -11,7 +11,7 @@ use Rattle.http_calls.specs.Tags.{is_mismatch, subject_of, tag_at, tag_shown}
 use Rattle.http_calls.specs.declared.answers.TaskAnswer.{TaskAnswer}
 use Rattle.http_calls.specs.declared.call.TaskAsked.{TaskAsked}
 use Rattle.http_calls.specs.declared.call.Task.TheVariants as task
-use Rattle.http_calls.specs.declared.subject.Subject.{Subject}
+use Rattle.desk_types.specs.declared.naming.Subject.{Subject}
 
 -- a refused call changes nothing, whether the body, the desk's rules or the person's role is the
 -- reason

@@ -2,9 +2,10 @@
 -- (If-Match; RFC 9110, section 13.1.1).
 use Rattle.std.specs.Prelude.{◌≡◌, ◌≢◌, ◌⊎◌, ℕ, List, Bool, false, not, Option, Some, None, option_map, Result, Ok, Err, bytes_eq}
 use Rattle.base.specs.declared.refusal.Refusal.{Refusal}
+use Rattle.desk_types.specs.Naming.{subject_named}
 use Rattle.desk_types.specs.declared.caller.Caller.TheVariants as callers
-use Rattle.desk_types.specs.declared.command.Command.{Command}
-use Rattle.desk_types.specs.declared.command.Command.TheVariants as command
+use Rattle.desk_types.specs.declared.naming.Subject.{Subject}
+use Rattle.desk_types.specs.declared.naming.Subject.TheVariants as subject
 use Rattle.desk_types.specs.declared.shown.ShownRequest.{ShownRequest}
 use Rattle.desk_history.specs.Calls.{History}
 use Rattle.desk_history.specs.Proposals.{proposal}
@@ -25,26 +26,6 @@ use Rattle.http_responses.specs.declared.outage.Outage.TheVariants as outage
 use Rattle.http_calls.specs.declared.call.TaskAsked.{TaskAsked}
 use Rattle.http_calls.specs.declared.call.Task.{Task}
 use Rattle.http_calls.specs.declared.call.Task.TheVariants as task
-use Rattle.http_calls.specs.declared.subject.Subject.{Subject}
-use Rattle.http_calls.specs.declared.subject.Subject.TheVariants as subject
-
--- the request or the proposal that a command names: six commands name one
-abbrev pub named_by : Command → Option Subject
-named_by (command.Review b) = Some (subject.Request b.request)
-named_by (command.Withdraw k) = Some (subject.Request k)
-named_by (command.Return h) = Some (subject.Request h.request)
-named_by (command.Confirm k) = Some (subject.Proposal k)
-named_by (command.Drop k) = Some (subject.Proposal k)
-named_by (command.Explain x) = Some (subject.Proposal x.proposal)
-named_by (command.AddPerson _) = None
-named_by (command.Submit _) = None
-named_by (command.ListCertificate _) = None
-named_by (command.ListDigest _) = None
-named_by (command.Unlist _) = None
-named_by (command.RevokeDigest _) = None
-named_by (command.RevokeCertificate _) = None
-named_by (command.RaiseLevel _) = None
-named_by (command.ImportRevocations _) = None
 
 -- the request for which an image is returned
 abbrev pub returned_for : ImageAsked → Option Subject
@@ -58,7 +39,7 @@ abbrev pub subject_of : Task → Option Subject
 subject_of (task.Read _) = None
 subject_of task.Me = None
 subject_of (task.Image with _) = returned_for with
-subject_of (task.Command _ given) = named_by given
+subject_of (task.Command _ given) = subject_named given
 subject_of (task.Bytes _ _ _) = None
 
 -- ---- tags

@@ -10,15 +10,13 @@ mod matching;
 mod reading;
 mod refusing;
 mod serving;
-mod subject;
 mod taking;
 
 pub use answering::AnswersCalls;
 pub use answers::TaskAnswer;
-pub use call::{TaskAsked, Task};
+pub use call::{Task, TaskAsked};
 pub use laws::{
     matched_commands_are_about_their_tag, refusals_change_nothing, repeats_match, shown_tags_stay,
     submitters_are_answered_by_own, tags_stay,
 };
 pub use serving::{answer, caller};
-pub use subject::Subject;

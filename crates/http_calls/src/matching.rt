@@ -5,37 +5,14 @@ ghost use Rattle.http_calls.specs.Desks.{ForEachShown, IsTold, StillShows};
 ghost use Rattle.http_calls.specs.Tags as spec;
 
 use crate::answering::AnswersCalls;
-use crate::call::{TaskAsked, Task};
+use crate::call::{Task, TaskAsked};
 use crate::refusing::outage;
-use crate::subject::Subject;
 use base::{Digest, Refusal};
 use desk_exports::{Reading, Shown, proposal_tag};
-use desk_types::{Command, Person};
+use desk_types::{Person, Subject};
 use http_requests::ImageAsked;
 use http_responses::{Outage, Refused, RequestsText};
 use std::alloc::{AllocError, Global};
-
-/// The request or the proposal that a command names, if it names one.
-fn named_by(command: &Command) -> Option<Subject>
-    ensures { result ≡ spec.named_by command.now }
-{
-    match command {
-        Command::Review(ballot) => Some(Subject::Request(ballot.request)),
-        Command::Withdraw(request) => Some(Subject::Request(*request)),
-        Command::Return(file) => Some(Subject::Request(file.request)),
-        Command::Confirm(proposal) | Command::Drop(proposal) => Some(Subject::Proposal(*proposal)),
-        Command::Explain(explanation) => Some(Subject::Proposal(explanation.proposal)),
-        Command::AddPerson(_)
-        | Command::Submit(_)
-        | Command::ListCertificate(_)
-        | Command::ListDigest(_)
-        | Command::Unlist(_)
-        | Command::RevokeDigest(_)
-        | Command::RevokeCertificate(_)
-        | Command::RaiseLevel(_)
-        | Command::ImportRevocations(_) => None,
-    }
-}
 
 /// What the command of a task is about, if it is about a request or a proposal.
 fn subject_of(task: &Task) -> Option<Subject>
@@ -43,7 +20,7 @@ fn subject_of(task: &Task) -> Option<Subject>
 {
     match task {
         Task::Image(ImageAsked::Return(_, number), _) => Some(Subject::Request(*number)),
-        Task::Command(_, command) => named_by(command),
+        Task::Command(_, command) => command.subject_named(),
         Task::Image(ImageAsked::Submit(_, _) | ImageAsked::Verdict | ImageAsked::Facts, _)
         | Task::Read(_)
         | Task::Me

@@ -3,6 +3,7 @@ use Rattle.std.proofs.Common.{◌≡◌, ◌≢◌, ◌∙◌, ℕ, List, Option
 use Rattle.std.specs.Prelude.{codes, option_and_then, option_map}
 use Rattle.serde_json.specs.Data.{Data}
 use Rattle.desk_history.specs.Calls.{History}
+use Rattle.desk_types.specs.Naming.{subject_named}
 use Rattle.desk_types.specs.declared.command.Ballot.{Ballot}
 use Rattle.desk_types.specs.declared.command.Command as texts
 use Rattle.desk_types.specs.declared.command.Command.TheVariants as given
@@ -29,13 +30,13 @@ use Rattle.http_requests.specs.declared.route.PostRoute.{PostRoute}
 use Rattle.http_requests.specs.declared.route.PostRoute.TheVariants.{Image, Command}
 use Rattle.http_requests.specs.declared.route.Route.TheVariants.{Post}
 use Rattle.http_responses.specs.declared.refused.Refused.{Refused}
-use Rattle.http_calls.specs.Tags.{named_by, returned_for, subject_of}
+use Rattle.http_calls.specs.Tags.{returned_for, subject_of}
 use Rattle.http_calls.specs.declared.answers.TaskAnswer.{TaskAnswer}
 use Rattle.http_calls.specs.declared.call.TaskAsked.{TaskAsked}
 use Rattle.http_calls.specs.declared.call.Task.{Task}
 use Rattle.http_calls.specs.declared.call.Task.TheVariants as task
-use Rattle.http_calls.specs.declared.subject.Subject.{Subject}
-use Rattle.http_calls.specs.declared.subject.Subject.TheVariants as subject
+use Rattle.desk_types.specs.declared.naming.Subject.{Subject}
+use Rattle.desk_types.specs.declared.naming.Subject.TheVariants as subject
 use Rattle.http_calls.proofs.LawLemmas.{matched_commands_are_about_their_tag}
 use Rattle.http_exchange.specs.Asked.{Asks, CallOrRefusal, caller_of, called_by, of_caller, of_head, of_route, tagged, tagged_body, with_body, with_image}
 use Rattle.http_exchange.specs.Bodies.{body_in}
@@ -119,7 +120,7 @@ explained k body x e = by (data_of body) e
 -- a command with a JSON body, which says the rest of it
 module _ {X : Type 0} (ask : ℕ → JsonAsked) (said : ℕ → List ℕ → Option X) (makes : X → texts.Command) (about : ℕ → Subject)
     (says : (k : ℕ) (body : List ℕ) → command_in (ask k) body ≡ option_map makes (said k body))
-    (names : (k : ℕ) (body : List ℕ) (x : X) → said k body ≡ Some x → named_by (makes x) ≡ Some (about k)) where
+    (names : (k : ℕ) (body : List ℕ) (x : X) → said k body ≡ Some x → subject_named (makes x) ≡ Some (about k)) where
   json_task : (key : List ℕ) (k : ℕ) (body : List ℕ) (t : Task) → task_of key (Json (ask k)) body ≡ Some t → subject_of t ≡ Some (about k)
   json_task key k body t e = by (said k body) refl (sym (ap (option_map (λ given. task.Command key given)) (says k body)) ∙ e)
     where
@@ -153,7 +154,7 @@ explains : (key : Option (List ℕ)) (number : Option ℕ) (x : KeyedCommand) (b
 explains = says_of_a_proposal json.Explain explanation_of given.Explain subject.Proposal (λ k body. refl) (λ k body x is. ap (λ n. Some (subject.Proposal n)) (explained k body x is))
 
 -- a command without a body
-module _ (makes : ℕ → texts.Command) (about : ℕ → Subject) (names : (k : ℕ) → named_by (makes k) ≡ Some (about k)) where
+module _ (makes : ℕ → texts.Command) (about : ℕ → Subject) (names : (k : ℕ) → subject_named (makes k) ≡ Some (about k)) where
   whole_task : (key : List ℕ) (k : ℕ) (x : KeyedCommand) (body : List ℕ) (t : Task)
       → asks (record { key = key; asked = Whole (makes k) }) ≡ Ok x → task_of x.key x.asked body ≡ Some t → subject_of t ≡ Some (about k)
   whole_task key k x body t e f =

@@ -14,8 +14,8 @@ use Rattle.http_requests.specs.declared.route.PostRoute.TheVariants.{Image, Comm
 use Rattle.http_requests.specs.declared.route.Route.TheVariants.{Post}
 use Rattle.http_calls.specs.Tags as tags
 use Rattle.http_calls.specs.declared.answers.TaskAnswer.{TaskAnswer}
-use Rattle.http_calls.specs.declared.subject.Subject.{Subject}
-use Rattle.http_calls.specs.declared.subject.Subject.TheVariants as subject
+use Rattle.desk_types.specs.declared.naming.Subject.{Subject}
+use Rattle.desk_types.specs.declared.naming.Subject.TheVariants as subject
 use Rattle.http_exchange.specs.Serving.{AnswersInput}
 
 -- the request or the proposal of the number in a route's target
