@@ -15,6 +15,7 @@ use Rattle.siglist.proofs.WritingLemmas.{sha256_spells, x509_sha256_spells, x509
 use Rattle.desk_types.specs.Certificates.{WholeCertificate, is_certificate_size}
 use Rattle.desk_types.specs.Commands.{IsCommand, IsDigest}
 use Rattle.desk_types.specs.Formed.{IsWithin}
+use Rattle.desk_types.specs.Naming.{certificate_listed}
 use Rattle.desk_types.specs.declared.command.Command.{Command}
 use Rattle.desk_types.specs.declared.command.Command.TheVariants as command
 use Rattle.desk_types.specs.declared.kind.ListedKind.{ListedKind}
@@ -28,7 +29,7 @@ use Rattle.desk_history.specs.Runs.{is_legal}
 use Rattle.desk_history.proofs.FormedLemmas.{filter_fewer}
 use Rattle.desk_history.proofs.RevocationLemmas.{revocations_are_digests}
 use Rattle.desk_history.proofs.RunLemmas.{legal_parts}
-use Rattle.desk_exports.specs.Bodies.{bodies_of, certificate_listed, certificates_given, is_bodiless}
+use Rattle.desk_exports.specs.Bodies.{bodies_of, certificates_given, is_bodiless}
 use Rattle.desk_exports.specs.Exports.{db, db_lists, dbx, dbx_lists, entries_of, revoked, revoked_bodies, revoked_bodiless, shim, shim_lists}
 use Rattle.desk_exports.proofs.OrderLemmas.{all_moved, length_ascending, sort_moved}
 
@@ -105,20 +106,7 @@ HasFitBody c = IsBody c.body
 
 listed_fits : (c : Command) → IsWithin c → (cs : List WholeCertificate) → AllByRecursion HasFitBody cs → AllByRecursion HasFitBody (cons_option (certificate_listed c) cs)
 listed_fits (command.ListCertificate c) w cs h = (w, h)
-listed_fits (command.ListDigest _) w cs h = h
-listed_fits (command.Unlist _) w cs h = h
-listed_fits (command.AddPerson _) w cs h = h
-listed_fits (command.Submit _) w cs h = h
-listed_fits (command.Review _) w cs h = h
-listed_fits (command.Withdraw _) w cs h = h
-listed_fits (command.Return _) w cs h = h
-listed_fits (command.RevokeDigest _) w cs h = h
-listed_fits (command.RevokeCertificate _) w cs h = h
-listed_fits (command.RaiseLevel _) w cs h = h
-listed_fits (command.ImportRevocations _) w cs h = h
-listed_fits (command.Confirm _) w cs h = h
-listed_fits (command.Drop _) w cs h = h
-listed_fits (command.Explain _) w cs h = h
+listed_fits _ w cs h = h
 
 given_fit : (cs : History) → All IsItem cs → AllByRecursion HasFitBody (certificates_given cs)
 given_fit [] h = tt

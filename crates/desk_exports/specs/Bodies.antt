@@ -1,28 +1,9 @@
 -- The bodies of certificates, as calls gave them: ListCertificate gives one, and no other call does.
-use Rattle.std.specs.Prelude.{ℕ, Bool, not, List, filter, filter_map, map, reverse, bytes_eq, Option, Some, None}
+use Rattle.std.specs.Prelude.{ℕ, Bool, not, List, filter, filter_map, map, reverse, bytes_eq}
 use Rattle.std.specs.List.{list_any}
 use Rattle.desk_types.specs.Certificates.{WholeCertificate}
-use Rattle.desk_types.specs.declared.command.Command.{Command}
-use Rattle.desk_types.specs.declared.command.Command.TheVariants as command
+use Rattle.desk_types.specs.Naming.{certificate_listed}
 use Rattle.desk_history.specs.Calls.{History, distinct}
-
--- the certificate that the command lists, if it lists one
-abbrev pub certificate_listed : Command → Option WholeCertificate
-certificate_listed (command.ListCertificate c) = Some c
-certificate_listed (command.AddPerson _) = None
-certificate_listed (command.Submit _) = None
-certificate_listed (command.Review _) = None
-certificate_listed (command.Withdraw _) = None
-certificate_listed (command.Return _) = None
-certificate_listed (command.ListDigest _) = None
-certificate_listed (command.Unlist _) = None
-certificate_listed (command.RevokeDigest _) = None
-certificate_listed (command.RevokeCertificate _) = None
-certificate_listed (command.RaiseLevel _) = None
-certificate_listed (command.ImportRevocations _) = None
-certificate_listed (command.Confirm _) = None
-certificate_listed (command.Drop _) = None
-certificate_listed (command.Explain _) = None
 
 -- the certificates that calls gave, the newest first
 abbrev pub certificates_given : History → List WholeCertificate

@@ -6,11 +6,12 @@ use Rattle.sbat.specs.Writing.{level_lines}
 use Rattle.siglist.specs.SignatureLists.{spelling}
 use Rattle.siglist.specs.Writing.{sha256_row, x509_row, x509_sha256_row}
 use Rattle.desk_types.specs.Certificates.{WholeCertificate}
+use Rattle.desk_types.specs.Naming.{certificate_listed}
 use Rattle.desk_types.specs.declared.kind.ListedKind.TheVariants as kinds
 use Rattle.desk_history.specs.Calls.{History, distinct, is_same_kind}
 use Rattle.desk_history.specs.Revocations.{revocations}
 use Rattle.desk_history.specs.Tables.{level_rows}
-use Rattle.desk_exports.specs.Bodies.{certificate_listed, certificates_given}
+use Rattle.desk_exports.specs.Bodies.{certificates_given}
 use Rattle.desk_exports.specs.Exports.{exported, minutes_text}
 use Rattle.desk_exports.specs.Orders.{ascending, ascending_by}
 use Rattle.desk_exports.specs.declared.export.Export.{Export}

@@ -14,11 +14,12 @@ use Rattle.sqlite.specs.Order.{Row}
 use Rattle.sqlite.specs.State.{HasCleanDisk}
 use Rattle.sqlite.specs.Store as store
 use Rattle.desk_types.specs.Certificates.{WholeCertificate}
+use Rattle.desk_types.specs.Naming.{certificate_listed}
 use Rattle.desk_history.specs.Calls.{History, distinct, is_among}
 use Rattle.desk_history.specs.Formed.{IsItem}
 use Rattle.desk_history.specs.Replies.{minute_of}
 use Rattle.desk_history.proofs.ListLemmas.{any_once}
-use Rattle.desk_exports.specs.Bodies.{certificate_listed, certificates_given}
+use Rattle.desk_exports.specs.Bodies.{certificates_given}
 use Rattle.store_schema.specs.rows.Histories.{ShowsHistory}
 use Rattle.store_schema.specs.rows.Values.{digest_values}
 use Rattle.store_sql.specs.Effects.{TakesAll}

@@ -11,11 +11,12 @@ use Rattle.desk_types.specs.Certificates.{WholeCertificate}
 use Rattle.desk_types.specs.Commands.{IsCommand}
 use Rattle.desk_types.specs.CommandTexts.{text_of}
 use Rattle.desk_types.specs.Formed.{IsWithin}
+use Rattle.desk_types.specs.Naming.{certificate_listed}
 use Rattle.desk_types.specs.declared.command.Command.{Command}
 use Rattle.desk_history.specs.Calls.{History, is_among}
 use Rattle.desk_history.specs.Formed.{IsItem}
 use Rattle.store_schema.specs.rows.Histories.{ShowsHistory}
-use Rattle.desk_exports.specs.Bodies.{bodies_of, certificate_listed}
+use Rattle.desk_exports.specs.Bodies.{bodies_of}
 use Rattle.store_exports.specs.Exporting.{SparesOf, StaysOf}
 use Rattle.store_exports.specs.Lines.{Columns, columns_row}
 

@@ -8,7 +8,7 @@ ghost use Rattle.desk_types.specs.CommandTexts.{text_of};
 ghost use Rattle.desk_types.specs.Formed.{IsWithin};
 ghost use Rattle.desk_types.specs.declared.command.Command.{Command as Given};
 ghost use Rattle.desk_types.specs.declared.kind.ListedKind.TheVariants as kinds;
-ghost use Rattle.desk_exports.specs.Bodies.{certificate_listed};
+ghost use Rattle.desk_types.specs.Naming.{certificate_listed};
 ghost use Rattle.desk_exports.specs.Exports.{revoked};
 ghost use Rattle.store_schema.specs.rows.Values.{digest_values};
 ghost use Rattle.store_exports.specs.Gathering.{Gathers, TakesBody, gathered, unfound, with_certificate};
@@ -22,29 +22,6 @@ use std::alloc::Global;
 use store_reads::{FromRow, ReadFault};
 use store_schema::{SELECT_CALLS, SELECT_REVOKED_CERTIFICATES};
 use store_sql::{Halt, TakesRow, stream};
-
-/// The certificate that the command lists, if it lists one.
-fn certificate_of(command: Command) -> Option<Certificate>
-    ensures { result ≡ certificate_listed command }
-{
-    match command {
-        Command::ListCertificate(certificate) => Some(certificate),
-        Command::AddPerson(_)
-        | Command::Submit(_)
-        | Command::Review(_)
-        | Command::Withdraw(_)
-        | Command::Return(_)
-        | Command::ListDigest(_)
-        | Command::Unlist(_)
-        | Command::RevokeDigest(_)
-        | Command::RevokeCertificate(_)
-        | Command::RaiseLevel(_)
-        | Command::ImportRevocations(_)
-        | Command::Confirm(_)
-        | Command::Drop(_)
-        | Command::Explain(_) => None,
-    }
-}
 
 /// True if the text begins with the word of the command that lists a certificate.
 fn lists(text: &[u8]) -> bool
@@ -66,7 +43,7 @@ fn certificate_in(alloc: Global, text: &[u8]) -> Result<Option<Certificate>, Rea
         return Ok(None);
     }
     match Command::parse(alloc, text) {
-        Ok(Some(command)) => Ok(certificate_of(command)),
+        Ok(Some(command)) => Ok(command.into_certificate()),
         Ok(None) => Err(ReadFault::Row),
         Err(_) => Err(ReadFault::NoMemory),
     }

@@ -1,7 +1,7 @@
 -- Images in commands, before the history gives them a request.
-use Rattle.std.specs.Prelude.{ℕ, ◌+◌, Option, Some, None, is_some, unwrap_or, if◌then◌else◌}
+use Rattle.std.specs.Prelude.{ℕ, ◌+◌, Option, option_map, is_some, unwrap_or, if◌then◌else◌}
+use Rattle.desk_types.specs.Naming.{facts_brought, request_named}
 use Rattle.desk_types.specs.declared.command.Command.{Command}
-use Rattle.desk_types.specs.declared.command.Command.TheVariants as command
 use Rattle.desk_history.specs.Images.{Image}
 use Rattle.desk_history.specs.declared.impact.WhichFile.{WhichFile}
 use Rattle.desk_history.specs.declared.impact.WhichFile.TheVariants as files
@@ -10,21 +10,7 @@ use Rattle.store_impacts.specs.declared.passed.BroughtImage.{BroughtImage}
 -- the image that the command brings, and the request that it names: a Return names one, a Submit
 -- none
 abbrev pub passed_by : Command → Option BroughtImage
-passed_by (command.Submit s) = Some (record { named = None; facts = s.facts })
-passed_by (command.Return h) = Some (record { named = Some h.request; facts = h.facts })
-passed_by (command.AddPerson _) = None
-passed_by (command.Review _) = None
-passed_by (command.Withdraw _) = None
-passed_by (command.ListCertificate _) = None
-passed_by (command.ListDigest _) = None
-passed_by (command.Unlist _) = None
-passed_by (command.RevokeDigest _) = None
-passed_by (command.RevokeCertificate _) = None
-passed_by (command.RaiseLevel _) = None
-passed_by (command.ImportRevocations _) = None
-passed_by (command.Confirm _) = None
-passed_by (command.Drop _) = None
-passed_by (command.Explain _) = None
+passed_by c = option_map (λ facts. record { named = request_named c; facts = facts }) (facts_brought c)
 
 -- which file it is
 abbrev pub file_of : BroughtImage → WhichFile

@@ -35,29 +35,10 @@ impl BroughtImage {
 fn passed_by(command: Command) -> Option<BroughtImage>
     ensures { result ≡ spec.passed_by command }
 {
-    match command {
-        Command::Submit(submission) => Some(BroughtImage {
-            named: None,
-            facts: submission.facts,
-        }),
-        Command::Return(returned) => Some(BroughtImage {
-            named: Some(returned.request),
-            facts: returned.facts,
-        }),
-        Command::AddPerson(_)
-        | Command::Review(_)
-        | Command::Withdraw(_)
-        | Command::ListCertificate(_)
-        | Command::ListDigest(_)
-        | Command::Unlist(_)
-        | Command::RevokeDigest(_)
-        | Command::RevokeCertificate(_)
-        | Command::RaiseLevel(_)
-        | Command::ImportRevocations(_)
-        | Command::Confirm(_)
-        | Command::Drop(_)
-        | Command::Explain(_) => None,
-    }
+    let named = command.request_named();
+    command
+        .into_facts()
+        .map(|facts| BroughtImage { named, facts })
 }
 
 /// True if the text begins with the word of a command that brings an image.
