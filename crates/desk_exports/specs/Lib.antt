@@ -1,10 +1,12 @@
 pub mod Bodies
 pub mod Changes
+pub mod Desks
 pub mod Exports
 pub mod Laws
 pub mod ListParts
 pub mod MinutesShown
 pub mod Orders
+pub mod Published
 pub mod Readings
 pub mod Reports
 pub mod Tags

@@ -12,7 +12,7 @@ use Rattle.desk_exports.specs.Changes.{changes_for}
 use Rattle.desk_history.specs.Impact.{Impact}
 use Rattle.desk_history.specs.ImpactShown.{ShowsImpact, impact_for}
 use Rattle.desk_exports.specs.ListParts.{proposals_from, requests_from}
-use Rattle.desk_history.specs.PeopleShown.{ShowsPeople, people_for}
+use Rattle.desk_history.specs.PeopleShown.{ShowsPeople, people_for, shown_person}
 use Rattle.desk_history.specs.ProposalShown.{proposal_for}
 use Rattle.desk_history.specs.Proposals.{Proposal}
 use Rattle.desk_history.specs.Roles.{is_officer}
@@ -21,8 +21,9 @@ use Rattle.desk_exports.specs.Waiting.{Waiting, waiting_for}
 use Rattle.desk_history.specs.declared.impact.ShownImpact.{ShownImpact}
 use Rattle.desk_history.specs.declared.rows.ProposalRow.{ProposalRow}
 use Rattle.desk_history.specs.declared.shown_person.ShownPerson.{ShownPerson}
-use Rattle.desk_exports.specs.Exports.{db, dbx, level}
+use Rattle.desk_exports.specs.Exports.{exported}
 use Rattle.desk_exports.specs.MinutesShown.{minutes_for}
+use Rattle.desk_exports.specs.Published.{export_of}
 use Rattle.desk_exports.specs.Reports.{report}
 use Rattle.desk_exports.specs.declared.reading.Reading.{Reading}
 use Rattle.desk_exports.specs.declared.reading.Reading.TheVariants as read
@@ -87,12 +88,11 @@ module _ {L : Type 0} (holds : L → List ShownRequest → Type 0) where
   IsShownTo owner cs p (read.Impact k) given = IsGiven (impact_for cs (callers.Person p.name) k) given (GivesImpact k)
   IsShownTo owner cs p read.Waiting given = IsGiven (waiting_for cs (callers.Person p.name)) given (GivesWaiting cs)
   IsShownTo owner cs p read.Changes given = IsGiven (changes_for cs (callers.Person p.name)) given GivesChanges
-  IsShownTo owner cs p read.Dbx given = given ≡ Ok (shown.Dbx (dbx owner cs))
-  IsShownTo owner cs p read.Db given = given ≡ Ok (shown.Db (db owner cs))
-  IsShownTo owner cs p read.Level given = given ≡ Ok (shown.Level (level cs))
+  IsShownTo owner cs p (read.Export what) given = given ≡ Ok (shown.Export what (exported (export_of what) owner cs))
   IsShownTo owner cs p read.Report given = given ≡ report_to p.role cs
   IsShownTo owner cs p (read.Minutes n) given = IsGiven (minutes_for cs (callers.Person p.name) n) given GivesMinutes
   IsShownTo owner cs p read.People given = IsGiven (people_for cs (callers.Person p.name)) given GivesPeople
+  IsShownTo owner cs p read.Me given = given ≡ Ok (shown.Me (shown_person p))
 
 -- ---- refusals
 
@@ -136,9 +136,8 @@ may_refuse (read.Proposal k) refusal = hides_proposal refusal
 may_refuse (read.Impact k) refusal = hides_impact refusal
 may_refuse read.Waiting refusal = turns_away refusal
 may_refuse read.Changes refusal = turns_away refusal
-may_refuse read.Dbx refusal = false
-may_refuse read.Db refusal = false
-may_refuse read.Level refusal = false
+may_refuse (read.Export what) refusal = false
 may_refuse read.Report refusal = lacks_role refusal
 may_refuse (read.Minutes n) refusal = turns_away refusal
 may_refuse read.People refusal = turns_away refusal
+may_refuse read.Me refusal = false

@@ -1,11 +1,13 @@
 //! What a desk shows after a history of calls: its exports (dbx, also in shim's form, db, the
-//! level, the minutes), its report, and what each person can read, as definitions, and worked
-//! examples of the exports and the report.
+//! level, the minutes), its report, and what each person can read, as definitions, worked examples
+//! of the exports and the report, and the promises of a desk that answers calls.
 #![tactic(auto)]
 
+mod answering;
 mod export;
 mod laws;
 mod octets;
+mod published;
 mod reading;
 mod request_list;
 mod shown;
@@ -13,6 +15,7 @@ mod shown_people;
 mod shown_proposals;
 mod tag;
 
+pub use answering::AnswersCalls;
 pub use export::Export;
 pub use laws::{
     exports_are_in_order, exports_are_spelt, exports_are_their_parts, exports_are_written,
@@ -20,6 +23,7 @@ pub use laws::{
     numbers_tell_of_changes, shim_revokes_the_same, waiting_is_written,
 };
 pub use octets::Octets;
+pub use published::Published;
 pub use reading::Reading;
 pub use request_list::RequestList;
 pub use shown::Shown;

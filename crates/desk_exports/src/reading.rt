@@ -1,4 +1,5 @@
 //! What a person can read of a desk.
+use crate::published::Published;
 use desk_types::{ProposalNumber, RequestNumber};
 
 /// What a person asks to read of a desk. What the person is shown is `IsShownTo`
@@ -23,11 +24,12 @@ pub enum Reading {
     Waiting,
     /// A number that changes whenever what the person may see of requests or proposals changed.
     Changes,
-    Dbx,
-    Db,
-    Level,
+    /// One of the exports that everybody is shown.
+    Export(Published),
     Report,
     /// The lines of the minutes from this number on, counted from 1, at most 1,000.
     Minutes(u64),
     People,
+    /// The person's own name and role.
+    Me,
 }

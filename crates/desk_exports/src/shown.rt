@@ -1,8 +1,9 @@
 //! What a person is shown of a desk.
 use crate::octets::Octets;
+use crate::published::Published;
 use crate::shown_people::ShownPeople;
 use crate::shown_proposals::ShownProposals;
-use desk_history::{ProposalRow, ShownImpact};
+use desk_history::{ProposalRow, ShownImpact, ShownPerson};
 use desk_types::{ProposalNumber, ShownRequest};
 
 /// What a person is shown, each by the reading of its name, or of a part of it. An `L` holds the
@@ -22,16 +23,14 @@ pub enum Shown<L> {
     Waiting(L, ShownProposals),
     /// The number that tells of changes.
     Changes(u64),
-    /// Signature lists.
-    Dbx(Octets),
-    /// Signature lists.
-    Db(Octets),
-    /// SBAT text.
-    Level(Octets),
+    /// Signature lists, or SBAT text.
+    Export(Published, Octets),
     /// Fourteen lines of text.
     Report(Octets),
     /// Lines of the minutes.
     Minutes(Octets),
     /// Ascending by name.
     People(ShownPeople),
+    /// Without the token.
+    Me(ShownPerson),
 }
