@@ -6,7 +6,6 @@ use Rattle.sqlite.specs.State.{HasCleanDisk}
 use Rattle.sqlite.specs.Store as store
 use Rattle.sqlite_disk.specs.declared.Disk.{Ghosts}
 use Rattle.sqlite_store.specs.declared.store.FileStore.{FileStore}
-use Rattle.desk_answers.specs.declared.open_desk.OpenDesk.{OpenDesk}
 use Rattle.base.specs.declared.refusal.Refusal.{Refusal}
 use Rattle.base.specs.declared.refusal.Refusal.TheVariants as refusals
 use Rattle.http_exchange.specs.Serving.{AnswersOne}
@@ -44,29 +43,19 @@ WorksInTurn serves count old new work = (told : Result Unit Refusal) × (work �
 
 module _ {S : Type 0} (g : store.Ghosts S) where
   -- a desk serves one request
-  abbrev pub ServesRequest : OpenDesk S → OpenDesk S → Result Served HttpFault → Type 0
-  ServesRequest = IsOneRequest (λ kept owner cs. ShowsDesk g kept.desk owner cs)
-      (λ kept. HasCleanDisk (state g kept.desk.conn)) (λ kept. kept.desk.needs_reopening ≡ true)
+  abbrev pub ServesRequest : Desk S → Desk S → Result Served HttpFault → Type 0
+  ServesRequest = IsOneRequest (ShowsDesk g) (λ desk. HasCleanDisk (state g desk.conn)) (λ desk. desk.needs_reopening ≡ true)
 
   -- a desk answers one request of an input
-  abbrev pub AnswersRequest : (input before after : Option (List ℕ)) → OpenDesk S → OpenDesk S → Result Served HttpFault → Type 0
-  AnswersRequest = AnswersOne (λ kept owner cs. ShowsDesk g kept.desk owner cs)
-      (λ kept. HasCleanDisk (state g kept.desk.conn)) (λ kept. kept.desk.needs_reopening ≡ true)
-
-  -- this was done by the desk, as one that answers calls
-  pub record ByCalls (did : OpenDesk S → OpenDesk S → Result WorkOutcome Fault → Type 0) (desk left : Desk S) (work : Result WorkOutcome Fault) : Type 0 where
-    pub opened : OpenDesk S
-    pub closed : OpenDesk S
-    pub before : opened.desk ≡ desk
-    pub after : closed.desk ≡ left
-    pub served : did opened closed work
+  abbrev pub AnswersRequest : (input before after : Option (List ℕ)) → Desk S → Desk S → Result Served HttpFault → Type 0
+  AnswersRequest = AnswersOne (ShowsDesk g) (λ desk. HasCleanDisk (state g desk.conn)) (λ desk. desk.needs_reopening ≡ true)
 
 module _ {D : Type 0} (g : Ghosts D) where
   -- this many connections were served by the desk, one after another, and it is closed
   abbrev pub Serves : (count : ℕ) (ending : Ending) (desk : Desk (FileStore D g)) → Type 0
-  Serves count ending desk = WorksAt g (ByCalls over_files (WorksInTurn (ServesRequest over_files) count) desk) ending
+  Serves count ending desk = WorksAt g (WorksInTurn (ServesRequest over_files) count desk) ending
 
   -- one request of an input was answered by the desk, and it is closed
   abbrev pub AnswersOnce : (input before after : Option (List ℕ)) (ending : Ending) (desk : Desk (FileStore D g)) → Type 0
   AnswersOnce input before after ending desk =
-      WorksAt g (ByCalls over_files (WorksOnce (AnswersRequest over_files input before after)) desk) ending
+      WorksAt g (WorksOnce (AnswersRequest over_files input before after) desk) ending

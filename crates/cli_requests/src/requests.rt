@@ -8,17 +8,15 @@ ghost use Rattle.cli_opening.specs.Faults.{IsClosingRefusal, IsLasting, IsOfOpen
 ghost use Rattle.cli_opening.specs.Faults.{IsOpeningRefusal};
 ghost use Rattle.cli_opening.specs.Works.{AtADesk, IsUnopened};
 ghost use Rattle.cli_output.specs.declared.ending.WorkOutcome.TheVariants.{Done};
-ghost use Rattle.cli_requests.specs.Works.{AnswersOnce, AnswersRequest, ByCalls};
+ghost use Rattle.cli_requests.specs.Works.{AnswersOnce, AnswersRequest};
 ghost use Rattle.cli_requests.specs.Works.{Serves, ServesRequest, WorksInTurn, WorksOnce};
 ghost use Rattle.http_exchange.specs.Serving.{AnswersOne};
 
-use cli_output::{Ending, Fault, WorkOutcome};
-use cli_opening::{CacheSize, Work, Worked, on_desk};
-use desk_answers::OpenDesk;
 use base::Refusal;
-use http_calls::AnswersCalls;
+use cli_opening::{CacheSize, Work, Worked, on_desk};
+use cli_output::{Ending, Fault, WorkOutcome};
+use desk_exports::AnswersCalls;
 use http_exchange::RequestReader;
-use store_desk::Desk;
 use http_net::{answer_connection, listen, serve};
 use http_requests::Routes;
 use sqlite::{Alter, FileFrom, Start};
@@ -26,6 +24,7 @@ use sqlite_disk::Disk;
 use std::alloc::Global;
 use std::io::{Read, Write};
 use std::marker::PhantomData;
+use store_desk::Desk;
 
 /// Answers one request of the reader, as a subcommand's work.
 fn answer_one<D: AnswersCalls, R: Read + Drop, W: Write>(
@@ -58,8 +57,8 @@ struct OneRequest<'a, R, W> {
 impl<'a, R: Read + Drop, W: Write> Work for OneRequest<'a, R, W> {
     type Output = W;
 
-    ghost does = { λ _ g w before after. ByCalls g (WorksOnce (AnswersRequest g
-        (R.remaining w.reader) (W.contents before) (W.contents after))) };
+    ghost does = { λ _ g w before after. WorksOnce (AnswersRequest g (R.remaining w.reader)
+        (W.contents before) (W.contents after)) };
 
     ghost leaves = { λ _ outcome. outcome ≡ Done };
 
@@ -67,12 +66,9 @@ impl<'a, R: Read + Drop, W: Write> Work for OneRequest<'a, R, W> {
 
     fn work<S: Alter + Drop>(self, rt: &HostRuntime, desk: Desk<S>, output: &mut W) -> Worked<S> {
         let OneRequest { routes, reader, .. } = self;
-        let mut desk = OpenDesk::new(desk);
+        let mut desk = desk;
         let work = answer_one(rt.alloc(), routes, &mut desk, reader, output);
-        Worked {
-            desk: desk.into_desk(),
-            work,
-        }
+        Worked { desk, work }
     }
 }
 
@@ -148,19 +144,16 @@ struct Connections<'a> {
 impl<'a> Work for Connections<'a> {
     type Output = ();
 
-    ghost does = { λ _ g w _ _. ByCalls g (WorksInTurn (ServesRequest g) w.count) };
+    ghost does = { λ _ g w _ _. WorksInTurn (ServesRequest g) w.count };
 
     ghost leaves = { λ _ outcome. outcome ≡ Done };
 
     ghost stops = { IsRow IsServingRefusal };
 
     fn work<S: Alter + Drop>(self, rt: &HostRuntime, desk: Desk<S>, _output: &mut ()) -> Worked<S> {
-        let mut desk = OpenDesk::new(desk);
+        let mut desk = desk;
         let work = serve_all(rt, self.routes, &mut desk, self.port, self.count);
-        Worked {
-            desk: desk.into_desk(),
-            work,
-        }
+        Worked { desk, work }
     }
 }
 

@@ -21,7 +21,8 @@ use Rattle.http_responses.specs.declared.outage.Outage.TheVariants as outage
 use Rattle.http_responses.specs.declared.refused.Refused.{Refused}
 use Rattle.http_calls.specs.Answers.{IsClosed, IsRead, IsReadAndTaken, IsRefusal, IsRuled, IsTaken, IsTakenIfRead, Judges, Serves, ShowsAsked, call_of, no_memory, store_failed}
 use Rattle.http_calls.specs.Bodies.{ReadsFacts, RefusesImage}
-use Rattle.http_calls.specs.Desks.{IsOutage, IsShut, is_text_of}
+use Rattle.desk_exports.specs.Desks.{IsOutage, IsShut}
+use Rattle.http_calls.specs.Desks.{is_text_of}
 use Rattle.http_calls.specs.declared.answers.TaskAnswer.{TaskAnswer}
 use Rattle.http_calls.specs.declared.answers.TaskAnswer.TheVariants as answer
 use Rattle.http_calls.proofs.RefusalLemmas.{apart, outage_told}
@@ -132,13 +133,13 @@ closed_image image read x e reads =
     inr (inr (λ owner cs. (inr (x, refuses, refl), refl)))
 
 -- what is shown, whatever the history is
-pub shut_shown : (p : Person) (reading : Reading) (shown : Shown (List ShownRequest)) → IsShut p reading (Ok shown)
+pub shut_shown : (p : Person) (reading : Reading) (shown : Shown (List ShownRequest)) → IsShut is_text_of p reading (Ok shown)
     → IsClosed (λ owner cs. IsRead cs (ShowsAsked owner cs p reading)) (answer.Shown shown)
 shut_shown p reading shown (inl reopened) = absurd cc
 shut_shown p reading shown (inr each) = inr (inr (λ owner cs. ((Ok shown, each owner cs, refl), refl)))
 
 -- or why nothing is shown
-pub shut_refusal : (p : Person) (reading : Reading) (r : Refusal) (a : TaskAnswer) → IsRefusal r a → IsShut p reading (Err r)
+pub shut_refusal : (p : Person) (reading : Reading) (r : Refusal) (a : TaskAnswer) → IsRefusal r a → IsShut is_text_of p reading (Err r)
     → IsClosed (λ owner cs. IsRead cs (ShowsAsked owner cs p reading)) a
 shut_refusal p reading r a is (inl reopened) = let same : r ≡ refusals.Reopen = cc in inl (told_as outage.Reopen r a is same)
 shut_refusal p reading r a is (inr each) = inr (inr (λ owner cs. ((Err r, each owner cs, is), refl)))

@@ -6,7 +6,7 @@ use Rattle.base.specs.declared.refusal.Refusal.{Refusal}
 use Rattle.base.specs.declared.refusal.Refusal.TheVariants as refusals
 use Rattle.desk_types.specs.Naming.{subject_named}
 use Rattle.desk_types.specs.declared.caller.Caller.TheVariants as callers
-use Rattle.desk_types.specs.declared.command.Call.{TaskAsked as Ruled}
+use Rattle.desk_types.specs.declared.command.Call.{Call as Ruled}
 use Rattle.desk_types.specs.declared.command.Command.{Command}
 use Rattle.desk_types.specs.declared.command.Command.TheVariants as command
 use Rattle.desk_types.specs.declared.command.Person.{Person}
@@ -61,7 +61,6 @@ image_same cs name asked.Facts image a later nothing h = h.1
 same : (owner : List ℕ) (cs : History) (p : Person) (t : Task) (a : TaskAnswer) (later : History)
     → GivesNothing a → AnswersTask owner cs p t a later → later ≡ cs
 same owner cs p (task.Read reading) a later nothing h = h.1
-same owner cs p task.Me a later nothing h = h.1
 same owner cs p (task.Image with image) a later nothing h = image_same cs p.name with image a later nothing h
 same owner cs p (task.Command key command) a later nothing h = taken_same cs p.name key (Ok command) a later nothing h
 same owner cs p (task.Bytes key format bytes) a later nothing h = taken_same cs p.name key h.0 a later nothing h.2
@@ -148,7 +147,6 @@ module _ (cs : History) (name key : List ℕ) (later : History) (changed : later
 task_shown : (owner : List ℕ) (cs : History) (p : Person) (t : Task) (a : TaskAnswer) (later : History) (s : Subject) → later ≢ cs → subject_of t ≡ Some s
     → AnswersTask owner cs p t a later → is_some (tag_shown cs p.name s) ≡ true
 task_shown owner cs p (task.Read reading) a later s changed is h = no_some s is
-task_shown owner cs p task.Me a later s changed is h = no_some s is
 task_shown owner cs p (task.Image (asked.Submit key title) image) a later s changed is h = no_some s is
 task_shown owner cs p (task.Image (asked.Return key k) image) a later s changed is h =
     subst (λ x. is_some (tag_shown cs p.name x) ≡ true) (some_same (subject.Request k) s is) (returned_shown cs p.name key later changed k image h.0 a h.1 h.2)

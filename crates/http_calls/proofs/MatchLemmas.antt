@@ -19,7 +19,8 @@ use Rattle.http_responses.specs.declared.outage.Outage.TheVariants as outage
 use Rattle.http_responses.specs.declared.refused.Refused.{Refused}
 use Rattle.http_responses.specs.declared.refused.Refused.TheVariants as refused
 use Rattle.http_calls.specs.Answers.{AnswersTask, AnswersUnless, IsClosed, Serves}
-use Rattle.http_calls.specs.Desks.{ForEachShown, IsShut, is_text_of}
+use Rattle.desk_exports.specs.Desks.{ForEachShown, IsShut}
+use Rattle.http_calls.specs.Desks.{is_text_of}
 use Rattle.http_calls.specs.Tags.{IsShutTo, TellsTag, differs_from, is_about_other, is_mismatch, is_other, proposal_tag, reading_of, request_tag, subject_of, tag_in, tag_shown}
 use Rattle.http_calls.specs.declared.answers.TaskAnswer.{TaskAnswer}
 use Rattle.http_calls.specs.declared.answers.TaskAnswer.TheVariants as answer
@@ -80,19 +81,19 @@ module _ (person reader : Person) (s : Subject) (reading : Reading) (copied : re
 
   -- ---- a desk that has failed
 
-  pub shut_tag : (given : Shown (List ShownRequest)) → IsShut reader reading (Ok given) → (cs : History) → tag_in given ≡ tag_shown cs person.name s
+  pub shut_tag : (given : Shown (List ShownRequest)) → IsShut is_text_of reader reading (Ok given) → (cs : History) → tag_in given ≡ tag_shown cs person.name s
   shut_tag given (inl reopen) cs = absurd (let no : ⊥ = cc in no)
   shut_tag given (inr each) cs = shows_tag [] cs given (each [] cs)
 
   -- a refusal that isn't an outage is due at each history
-  pub shut_none : (r : Refusal) (x : Refused) → refused_of r ≡ Some x → IsShut reader reading (Err r) → (cs : History) → tag_shown cs person.name s ≡ None
+  pub shut_none : (r : Refusal) (x : Refused) → refused_of r ≡ Some x → IsShut is_text_of reader reading (Err r) → (cs : History) → tag_shown cs person.name s ≡ None
   shut_none r x told (inl reopen) cs =
       let same : r ≡ refusals.Reopen = cc in
       let bad : None ≡ Some x = ap refused_of (sym same) ∙ told in absurd (let no : ⊥ = cc in no)
   shut_none r x told (inr each) cs = shows_none [] cs r (each [] cs)
 
   -- and an outage is that it must be opened again
-  pub shut_outage : (r : Refusal) → refused_of r ≡ None → IsShut reader reading (Err r) → r ≡ refusals.Reopen
+  pub shut_outage : (r : Refusal) → refused_of r ≡ None → IsShut is_text_of reader reading (Err r) → r ≡ refusals.Reopen
   shut_outage r untold (inl reopen) = let same : r ≡ refusals.Reopen = cc in same
   shut_outage r untold (inr each) =
       let stranger = unknown person s r (as_read [] [] (Err r) (each [] [])) in
@@ -174,10 +175,10 @@ module _ (person reader : Person) (s : Subject) (reading : Reading) (copied : re
           (refused (no_outage r outage.NoMemory told.1) (no_outage r outage.Store told.1) owner cs was))
 
   -- a desk that has failed tells it at most where it is so at any history
-  pub tells_shut : IsShut reader reading read → IsShutTo tag (λ t. (cs : History) → t ≡ tag_shown cs person.name s)
+  pub tells_shut : IsShut is_text_of reader reading read → IsShutTo tag (λ t. (cs : History) → t ≡ tag_shown cs person.name s)
   tells_shut = by read tag told
     where
-      by : (read : Reads) (tag : Tag) → TellsTag read tag → IsShut reader reading read → IsShutTo tag (λ t. (cs : History) → t ≡ tag_shown cs person.name s)
+      by : (read : Reads) (tag : Tag) → TellsTag read tag → IsShut is_text_of reader reading read → IsShutTo tag (λ t. (cs : History) → t ≡ tag_shown cs person.name s)
       by (Ok x) (Ok t) told shut = λ cs. told ∙ shut_tag person reader s reading copied asks x shut cs
       by (Ok x) (Err o) told shut = inl told
       by (Err r) (Ok t) told shut = λ cs.

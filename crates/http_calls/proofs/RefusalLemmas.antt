@@ -15,7 +15,8 @@ use Rattle.http_responses.specs.declared.refused.Refused.{Refused}
 use Rattle.http_responses.specs.declared.refused.Refused.TheVariants as refused
 use Rattle.http_calls.specs.Answers.{IsRefusal}
 use Rattle.http_calls.specs.Bodies.{RefusesAs}
-use Rattle.http_calls.specs.Desks.{IsOutage, IsReadingRefusal, IsTold}
+use Rattle.desk_exports.specs.Desks.{IsOutage, IsReadingRefusal}
+use Rattle.http_calls.specs.Desks.{IsTold}
 use Rattle.http_calls.specs.declared.answers.TaskAnswer.{TaskAnswer}
 use Rattle.http_calls.specs.declared.answers.TaskAnswer.TheVariants as answer
 
@@ -109,12 +110,11 @@ due_by_rules (read.Proposal k) r h = proposal_by_rules r h
 due_by_rules (read.Impact k) r h = impact_by_rules r h
 due_by_rules read.Waiting r h = turned_by_rules r h
 due_by_rules read.Changes r h = turned_by_rules r h
-due_by_rules read.Dbx r h = absurd (not_true h)
-due_by_rules read.Db r h = absurd (not_true h)
-due_by_rules read.Level r h = absurd (not_true h)
+due_by_rules (read.Export what) r h = absurd (not_true h)
 due_by_rules read.Report r h = role_by_rules r h
 due_by_rules (read.Minutes n) r h = turned_by_rules r h
 due_by_rules read.People r h = turned_by_rules r h
+due_by_rules read.Me r h = absurd (not_true h)
 
 -- so each refusal of a reading has an answer
 pub told_reading : (reading : Reading) (r : Refusal) → IsReadingRefusal reading r → IsTold r
@@ -215,7 +215,6 @@ outage_told o (answer.Reply reply) told = absurd told
 outage_told o (answer.Shown shown) told = absurd told
 outage_told o (answer.Verdict verdict facts) told = absurd told
 outage_told o (answer.Facts facts) told = absurd told
-outage_told o (answer.Me person) told = absurd told
 outage_told o (answer.Refused x) told =
     let bad : None ≡ Some o = sym (none_at x) ∙ (ap outage_at told.of ∙ some_at o) in absurd (let no : ⊥ = cc in no)
 outage_told o (answer.Unavailable p) told =

@@ -3,14 +3,13 @@ use Rattle.std.specs.Prelude.{◌≡◌, ◌⊎◌, ⊤, ℕ, List, Bool, true, 
 use Rattle.std.specs.declared.alloc.AllocError.{AllocError}
 use Rattle.base.specs.declared.refusal.Refusal.{Refusal}
 use Rattle.desk_types.specs.declared.caller.Caller.TheVariants as callers
-use Rattle.desk_types.specs.declared.command.Call.{TaskAsked as Ruled}
+use Rattle.desk_types.specs.declared.command.Call.{Call as Ruled}
 use Rattle.desk_types.specs.declared.command.Command.{Command}
 use Rattle.desk_types.specs.declared.command.Command.TheVariants as command
 use Rattle.desk_types.specs.declared.command.Person.{Person}
 use Rattle.desk_types.specs.declared.facts.Facts.{Facts}
 use Rattle.desk_types.specs.declared.shown.ShownRequest.{ShownRequest}
 use Rattle.desk_history.specs.Calls.{History}
-use Rattle.desk_history.specs.PeopleShown.{shown_person}
 use Rattle.desk_history.specs.Runs as runs
 use Rattle.desk_history.specs.Verdicts.{verdict}
 use Rattle.desk_history.specs.declared.answer.Answer as ruling
@@ -114,10 +113,6 @@ TellsFacts image a =
     ((x : Facts) × IsFactsOf image x × (a ≡ answer.Facts x))
     ⊎ ((refused : Refused) × RefusesImage image refused × (a ≡ answer.Refused refused))
 
--- the name and the role of the person
-abbrev pub IsPerson : Person → TaskAnswer → Type 0
-IsPerson p a = a ≡ answer.Me (shown_person p)
-
 -- ---- every task
 
 -- The desk that shows the history gives this answer to a request with an image by the person of
@@ -134,7 +129,6 @@ AnswersImage cs name asked.Facts image = IsRead cs (TellsFacts image)
 -- read changes nothing.
 abbrev pub AnswersTask : List ℕ → History → Person → Task → TaskAnswer → History → Type 0
 AnswersTask owner cs p (task.Read reading) = IsRead cs (ShowsAsked owner cs p reading)
-AnswersTask owner cs p task.Me = IsRead cs (IsPerson p)
 AnswersTask owner cs p (task.Image with image) = AnswersImage cs p.name with image
 AnswersTask owner cs p (task.Command key command) = IsTaken cs p.name key (Ok command)
 AnswersTask owner cs p (task.Bytes key format bytes) = IsReadAndTaken cs p.name key (ReadsBytes format bytes)

@@ -37,7 +37,6 @@ returned_for asked.Facts = None
 -- what the command of a task is about
 abbrev pub subject_of : Task → Option Subject
 subject_of (task.Read _) = None
-subject_of task.Me = None
 subject_of (task.Image with _) = returned_for with
 subject_of (task.Command _ given) = subject_named given
 subject_of (task.Bytes _ _ _) = None

@@ -1,6 +1,6 @@
 //! Answers to calls.
 use desk_exports::Shown;
-use desk_history::{ShownPerson, Verdict};
+use desk_history::Verdict;
 use desk_types::{Facts, Reply};
 use http_responses::{Outage, Refused, RequestsText};
 
@@ -15,8 +15,6 @@ pub enum TaskAnswer {
     Verdict(Verdict, Facts),
     /// Of an image.
     Facts(Facts),
-    /// The person who asks.
-    Me(ShownPerson),
     /// With the place that the refusal tells, if it tells one.
     Refused(Refused),
     /// The desk can't answer.

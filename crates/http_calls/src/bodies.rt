@@ -78,7 +78,9 @@ fn listing(body: Octets) -> Result<Command, Refused>
 }
 
 /// The command of an import, or the refusal for its fault.
-fn import_command(given: Result<Command, ImportFault>) -> Result<Result<Command, Refused>, AllocError>
+fn import_command(
+    given: Result<Command, ImportFault>,
+) -> Result<Result<Command, Refused>, AllocError>
     ensures reads { spec.TellsImport given result }
 {
     match given {

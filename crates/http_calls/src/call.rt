@@ -19,8 +19,6 @@ pub struct TaskAsked {
 pub enum Task {
     /// Reads this.
     Read(Reading),
-    /// Reads the person's own name and role.
-    Me,
     /// A request with an image.
     Image(ImageAsked, Pieces),
     /// A command whose parts are all known.

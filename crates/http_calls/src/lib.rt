@@ -1,7 +1,6 @@
 //! Calls of the desk, and the answers to them of any desk that shows a history.
 #![tactic(auto)]
 
-mod answering;
 mod answers;
 mod bodies;
 mod call;
@@ -12,7 +11,6 @@ mod refusing;
 mod serving;
 mod taking;
 
-pub use answering::AnswersCalls;
 pub use answers::TaskAnswer;
 pub use call::{Task, TaskAsked};
 pub use laws::{

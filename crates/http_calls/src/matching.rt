@@ -1,14 +1,14 @@
 //! The tag of what a command is about, against the one that the caller sent.
 ghost use Rattle.std.specs.Prelude.{◌≡◌, ◌≢◌, ℕ, List, Err, IfErr, IfOk};
 ghost use Rattle.desk_history.specs.Calls.{History};
-ghost use Rattle.http_calls.specs.Desks.{ForEachShown, IsTold, StillShows};
+ghost use Rattle.desk_exports.specs.Desks.{ForEachShown, StillShows};
+ghost use Rattle.http_calls.specs.Desks.{IsTold};
 ghost use Rattle.http_calls.specs.Tags as spec;
 
-use crate::answering::AnswersCalls;
 use crate::call::{Task, TaskAsked};
 use crate::refusing::outage;
 use base::{Digest, Refusal};
-use desk_exports::{Reading, Shown, proposal_tag};
+use desk_exports::{AnswersCalls, Reading, Shown, proposal_tag};
 use desk_types::{Person, Subject};
 use http_requests::ImageAsked;
 use http_responses::{Outage, Refused, RequestsText};
@@ -23,7 +23,6 @@ fn subject_of(task: &Task) -> Option<Subject>
         Task::Command(_, command) => command.subject_named(),
         Task::Image(ImageAsked::Submit(_, _) | ImageAsked::Verdict | ImageAsked::Facts, _)
         | Task::Read(_)
-        | Task::Me
         | Task::Bytes(_, _, _) => None,
     }
 }
@@ -50,12 +49,11 @@ fn tag_in(alloc: Global, shown: &Shown<RequestsText>) -> Result<Option<Digest>, 
         | Shown::Impact(_, _)
         | Shown::Waiting(_, _)
         | Shown::Changes(_)
-        | Shown::Dbx(_)
-        | Shown::Db(_)
-        | Shown::Level(_)
+        | Shown::Export(_, _)
         | Shown::Report(_)
         | Shown::Minutes(_)
-        | Shown::People(_) => Ok(None),
+        | Shown::People(_)
+        | Shown::Me(_) => Ok(None),
     }
 }
 

@@ -3,12 +3,10 @@ ghost use Rattle.std.specs.Prelude.{◌≡◌, ◌≢◌, ◌⊎◌, ℕ, List};
 ghost use Rattle.desk_history.specs.Calls.{History};
 ghost use Rattle.http_calls.specs.Answers as spec;
 
-use crate::answering::AnswersCalls;
 use crate::answers::TaskAnswer;
 use crate::bodies::read_facts;
 use crate::refusing::{outage, refuse};
-use desk_exports::Reading;
-use desk_history::ShownPerson;
+use desk_exports::{AnswersCalls, Reading};
 use desk_types::Person;
 use http_responses::Outage;
 use pe_image::Pieces;
@@ -46,14 +44,6 @@ pub(crate) fn tell(alloc: Global, image: Pieces) -> TaskAnswer
         Ok(Err(refused)) => TaskAnswer::Refused(refused),
         Err(AllocError) => TaskAnswer::Unavailable(Outage::NoMemory),
     }
-}
-
-/// The person, without the token.
-pub(crate) fn introduce(person: Person) -> TaskAnswer
-    ensures { spec.IsPerson person result }
-{
-    let Person { name, role, .. } = person;
-    TaskAnswer::Me(ShownPerson { name, role })
 }
 
 /// The answer to a person's read.

@@ -9,7 +9,8 @@ ghost use Rattle.desk_inputs.specs.Faults as facts;
 ghost use Rattle.http_responses.specs.Refusals.{outage_refusal};
 ghost use Rattle.http_calls.specs.Answers.{IsRefusal};
 ghost use Rattle.http_calls.specs.Bodies.{RefusesAs};
-ghost use Rattle.http_calls.specs.Desks.{IsOutage, IsTold};
+ghost use Rattle.desk_exports.specs.Desks.{IsOutage};
+ghost use Rattle.http_calls.specs.Desks.{IsTold};
 
 use crate::answers::TaskAnswer;
 use authenticode::CarriedFault;

@@ -3,16 +3,16 @@ ghost use Rattle.std.specs.Prelude.{◌≡◌, ◌≢◌, ℕ, List, Err, IfOk};
 ghost use Rattle.sha2.specs.Sha256.{sha256};
 ghost use Rattle.desk_history.specs.Calls.{History};
 ghost use Rattle.http_calls.specs.Answers as spec;
-ghost use Rattle.http_calls.specs.Desks.{StillShows, ForEachShown, person_with};
+ghost use Rattle.desk_exports.specs.Desks.{StillShows, ForEachShown, person_with};
 
-use crate::answering::AnswersCalls;
 use crate::answers::TaskAnswer;
 use crate::bodies::{command_of, returned_file, submission};
-use crate::call::{TaskAsked, Task};
+use crate::call::{Task, TaskAsked};
 use crate::matching::is_mismatch;
-use crate::reading::{introduce, judge, show, tell};
+use crate::reading::{judge, show, tell};
 use crate::refusing::outage;
 use crate::taking::take;
+use desk_exports::AnswersCalls;
 use desk_inputs::token_digest;
 use desk_types::{Person, PersonName};
 use http_requests::ImageAsked;
@@ -74,7 +74,12 @@ fn answer_image<D: AnswersCalls>(
 
 /// Answers a person's task. A body is read before the desk is asked, so its faults come first. Takes
 /// memory.
-fn answer_task<D: AnswersCalls>(alloc: Global, desk: &mut D, person: Person, task: Task) -> TaskAnswer
+fn answer_task<D: AnswersCalls>(
+    alloc: Global,
+    desk: &mut D,
+    person: Person,
+    task: Task,
+) -> TaskAnswer
     ensures served { D.clean desk.new → (owner : List ℕ) (cs : History)
         → D.shows desk.old owner cs
         → spec.Serves (D.shows desk.new owner) (D.failed desk.new) cs
@@ -87,7 +92,6 @@ fn answer_task<D: AnswersCalls>(alloc: Global, desk: &mut D, person: Person, tas
 {
     match task {
         Task::Read(reading) => show(desk, person, reading),
-        Task::Me => introduce(person),
         Task::Image(asked, image) => answer_image(alloc, desk, person.name, asked, image),
         Task::Command(key, command) => take(desk, person.name, &key, Ok(Ok(command))),
         Task::Bytes(key, asked, bytes) => {

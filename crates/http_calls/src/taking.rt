@@ -3,9 +3,9 @@ ghost use Rattle.std.specs.Prelude.{◌≡◌, ℕ, List};
 ghost use Rattle.desk_history.specs.Calls.{History};
 ghost use Rattle.http_calls.specs.Answers.{IsClosed, IsTakenIfRead, Serves, store_failed};
 
-use crate::answering::AnswersCalls;
 use crate::answers::TaskAnswer;
 use crate::refusing::refuse;
+use desk_exports::AnswersCalls;
 use desk_types::{Caller, Command, Key, PersonName};
 use http_responses::{Outage, Refused};
 use std::alloc::AllocError;

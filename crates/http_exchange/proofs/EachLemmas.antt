@@ -4,7 +4,7 @@ use Rattle.std.proofs.lemmas.List.{append-nil, take_more}
 use Rattle.std.specs.Io.KnownBytes.{Appends, Keeps}
 use Rattle.desk_history.specs.Calls.{History}
 use Rattle.http_calls.specs.Answers.{no_memory, store_failed}
-use Rattle.http_calls.specs.Desks.{ForEachShown}
+use Rattle.desk_exports.specs.Desks.{ForEachShown}
 use Rattle.http_calls.specs.declared.answers.TaskAnswer.{TaskAnswer}
 use Rattle.http_exchange.specs.Each.{RespondsTo, RespondsToEach, ServesEach, ServesNext, has_failed}
 use Rattle.http_exchange.specs.Responses.{answered_of, response_of, said_of}

@@ -14,7 +14,7 @@ use Rattle.http_requests.specs.declared.route.Route.{Route}
 use Rattle.http_requests.specs.declared.route.Route.TheVariants.{Get, Post}
 use Rattle.http_requests.specs.declared.fault.WantedFault.{WantedFault}
 use Rattle.http_responses.specs.declared.refused.Refused.{Refused}
-use Rattle.http_calls.specs.Desks.{ForEachShown}
+use Rattle.desk_exports.specs.Desks.{ForEachShown}
 use Rattle.desk_types.specs.declared.command.Person.{Person}
 use Rattle.http_exchange.specs.Asked.{Asks, CallOrRefusal, HasRequest, caller_of, due_of, of_caller, of_head, of_route, with_body, with_image}
 use Rattle.http_exchange.specs.Refused.{refused_by_head}

@@ -4,7 +4,7 @@ use Rattle.std.specs.Io.KnownBytes.{Appends}
 use Rattle.base.specs.Output.{AppendsBeginning}
 use Rattle.desk_history.specs.Calls.{History}
 use Rattle.http_calls.specs.Answers.{Serves}
-use Rattle.http_calls.specs.Desks.{ForEachShown}
+use Rattle.desk_exports.specs.Desks.{ForEachShown}
 use Rattle.http_calls.specs.declared.answers.TaskAnswer.{TaskAnswer}
 use Rattle.http_exchange.specs.Responses.{answered_of, response_of}
 use Rattle.http_exchange.specs.Sending.{Replaces, Sends}

@@ -19,7 +19,6 @@ answer_of_store (answer.Reply reply) is = let bad : said.Given ≡ said.Unavaila
 answer_of_store (answer.Shown given) is = let bad : said.Given ≡ said.Unavailable outage.Store = is in cc
 answer_of_store (answer.Verdict verdict facts) is = let bad : said.Given ≡ said.Unavailable outage.Store = is in cc
 answer_of_store (answer.Facts facts) is = let bad : said.Given ≡ said.Unavailable outage.Store = is in cc
-answer_of_store (answer.Me person) is = let bad : said.Given ≡ said.Unavailable outage.Store = is in cc
 answer_of_store (answer.Refused x) is = let bad : said.Refused x ≡ said.Unavailable outage.Store = is in cc
 answer_of_store (answer.Unavailable x) is = let same : said.Unavailable x ≡ said.Unavailable outage.Store = is in cc
 

@@ -9,7 +9,7 @@ use Rattle.http_requests.specs.declared.heads.begun.HeadRead.TheVariants.{Head, 
 use Rattle.http_requests.proofs.HeadLemmas.{no_request_in_nothing}
 use Rattle.http_requests.specs.CheckedHead.{Want, wanted_of}
 use Rattle.http_requests.specs.declared.fault.WantedFault.{WantedFault}
-use Rattle.http_calls.specs.Desks.{ForEachShown}
+use Rattle.desk_exports.specs.Desks.{ForEachShown}
 use Rattle.http_exchange.specs.Asked.{HasByte, IsOfNobody, LeavesBody, caller_of}
 use Rattle.http_exchange.specs.Serving.{IsOfBytes, LeavesStrangers}
 use Rattle.http_exchange.specs.Unread.{IsOfInput, WhenAsked}

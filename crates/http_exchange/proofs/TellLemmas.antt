@@ -2,7 +2,7 @@
 use Rattle.std.proofs.Common.{◌≡◌, ◌⊎◌, ℕ, List, inl, inr, sym, subst, false, Option, Some, None, IfSome}
 use Rattle.desk_history.specs.Calls.{History}
 use Rattle.http_calls.specs.Answers.{Serves, store_failed}
-use Rattle.http_calls.specs.Desks.{StillShows, ForEachShown}
+use Rattle.desk_exports.specs.Desks.{StillShows, ForEachShown}
 use Rattle.http_calls.specs.declared.answers.TaskAnswer.{TaskAnswer}
 use Rattle.http_exchange.specs.Asked.{Asks, CallOrRefusal}
 use Rattle.http_exchange.specs.Sending.{Replaces, is_outage}

@@ -4,6 +4,7 @@ use Rattle.httparse.specs.Grammar.{RequestHead}
 use Rattle.sha2.specs.Sha256.{sha256}
 use Rattle.desk_history.specs.Calls.{History}
 use Rattle.desk_types.specs.declared.command.Person.{Person}
+use Rattle.desk_exports.specs.declared.reading.Reading.{Reading}
 use Rattle.http_requests.specs.heads.Fields.{parts_of}
 use Rattle.http_requests.specs.heads.Heads.{HasHead, HasNoHead}
 use Rattle.http_requests.specs.Asked.{read_at, image_at, keyed_at}
@@ -11,8 +12,6 @@ use Rattle.http_requests.specs.Tags.{tag_at}
 use Rattle.http_requests.specs.CheckedHead.{Want, wanted_of}
 use Rattle.http_requests.specs.declared.ask.ImageAsked.{ImageAsked}
 use Rattle.http_requests.specs.declared.ask.KeyedCommand.{KeyedCommand}
-use Rattle.http_requests.specs.declared.ask.ReadAsked.{ReadAsked}
-use Rattle.http_requests.specs.declared.ask.ReadAsked.TheVariants.{Desk, Me}
 use Rattle.http_requests.specs.declared.fault.AskedFault.{AskedFault}
 use Rattle.http_requests.specs.declared.fault.WantedFault.{WantedFault}
 use Rattle.http_requests.specs.declared.route.PostRoute.TheVariants.{Image, Command}
@@ -23,7 +22,7 @@ use Rattle.http_responses.specs.declared.refused.Refused.TheVariants as refused
 use Rattle.http_calls.specs.declared.call.TaskAsked.{TaskAsked}
 use Rattle.http_calls.specs.declared.call.Task.{Task}
 use Rattle.http_calls.specs.declared.call.Task.TheVariants as task
-use Rattle.http_calls.specs.Desks.{ForEachShown, person_with}
+use Rattle.desk_exports.specs.Desks.{ForEachShown, person_with}
 use Rattle.http_exchange.specs.Bodies.{body_in}
 use Rattle.http_exchange.specs.Tasks.{task_of}
 use Rattle.http_exchange.specs.Refused.{refused_by_head, refused_by_fields}
@@ -42,10 +41,9 @@ abbrev pub call_for : Person → Option (List ℕ) → Task → CallOrRefusal
 call_for p tag task = Ok (record { person = p; tag = tag; task = task })
 
 -- a person's read, by the request's fields
-abbrev pub of_read : Person → Result ReadAsked AskedFault → CallOrRefusal
+abbrev pub of_read : Person → Result Reading AskedFault → CallOrRefusal
 of_read p (Err fault) = Err (refused_by_fields fault)
-of_read p (Ok (Desk reading)) = call_for p None (task.Read reading)
-of_read p (Ok Me) = call_for p None task.Me
+of_read p (Ok reading) = call_for p None (task.Read reading)
 
 -- the call of a person for a task, by the request's tag
 abbrev pub tagged : Person → Result (Option (List ℕ)) AskedFault → Task → CallOrRefusal

@@ -3,7 +3,7 @@ use Rattle.std.specs.Prelude.{◌≡◌, ◌⊎◌, ℕ, Bool, true, false, List
 use Rattle.std.specs.Io.KnownBytes.{Appends}
 use Rattle.desk_history.specs.Calls.{History}
 use Rattle.http_responses.specs.declared.outage.Outage.TheVariants as outage
-use Rattle.http_calls.specs.Desks.{ForEachShown}
+use Rattle.desk_exports.specs.Desks.{ForEachShown}
 use Rattle.http_calls.specs.declared.answers.TaskAnswer.{TaskAnswer}
 use Rattle.http_exchange.specs.Responses.{response_of}
 use Rattle.http_exchange.specs.Serving.{AnswersInput}

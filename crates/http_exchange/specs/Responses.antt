@@ -3,6 +3,8 @@ use Rattle.std.specs.Prelude.{ℕ, List, [], Option, Some, None, Vec}
 use Rattle.std.specs.declared.alloc.Global.{Global}
 use Rattle.serde_json.specs.Data.{Data}
 use Rattle.serde_json.specs.Written.{compact_text}
+use Rattle.desk_exports.specs.declared.published.Published.{Published}
+use Rattle.desk_exports.specs.declared.published.Published.TheVariants as published
 use Rattle.desk_exports.specs.declared.shown.Shown.{Shown}
 use Rattle.desk_exports.specs.declared.shown.Shown.TheVariants as shown
 use Rattle.desk_types.specs.declared.shown.ShownRequest.{ShownRequest}
@@ -34,9 +36,14 @@ status_of (answer.Reply reply) = status.Ok
 status_of (answer.Shown given) = status.Ok
 status_of (answer.Verdict verdict facts) = status.Ok
 status_of (answer.Facts facts) = status.Ok
-status_of (answer.Me person) = status.Ok
 status_of (answer.Refused refused) = refusals.status_of refused
 status_of (answer.Unavailable outage) = status.ServiceUnavailable
+
+-- an export has this content
+abbrev pub content_published : Published → Content
+content_published published.Dbx = content.Bytes
+content_published published.Db = content.Bytes
+content_published published.Level = content.Text
 
 -- what is shown has this content
 abbrev pub content_shown : Shown (List ShownRequest) → Content
@@ -47,12 +54,11 @@ content_shown (shown.Proposal row) = content.Json
 content_shown (shown.Impact number impact) = content.Json
 content_shown (shown.Waiting requests proposals) = content.Json
 content_shown (shown.Changes changes) = content.Json
-content_shown (shown.Dbx bytes) = content.Bytes
-content_shown (shown.Db bytes) = content.Bytes
-content_shown (shown.Level text) = content.Text
+content_shown (shown.Export what bytes) = content_published what
 content_shown (shown.Report text) = content.Text
 content_shown (shown.Minutes text) = content.Text
 content_shown (shown.People people) = content.Json
+content_shown (shown.Me person) = content.Json
 
 -- the content of its body
 abbrev pub content_of : TaskAnswer → Content
@@ -60,7 +66,6 @@ content_of (answer.Reply reply) = content.Json
 content_of (answer.Shown given) = content_shown given
 content_of (answer.Verdict verdict facts) = content.Json
 content_of (answer.Facts facts) = content.Json
-content_of (answer.Me person) = content.Json
 content_of (answer.Refused refused) = content.Json
 content_of (answer.Unavailable outage) = content.Json
 
@@ -83,12 +88,11 @@ body_shown (shown.Proposal row) = compact_text (whole_proposal_data row)
 body_shown (shown.Impact number impact) = compact_text (impact_data number impact)
 body_shown (shown.Waiting requests proposals) = compact_text (waiting_data requests proposals)
 body_shown (shown.Changes changes) = compact_text (changes_data changes)
-body_shown (shown.Dbx bytes) = bytes
-body_shown (shown.Db bytes) = bytes
-body_shown (shown.Level text) = text
+body_shown (shown.Export what bytes) = bytes
 body_shown (shown.Report text) = text
 body_shown (shown.Minutes text) = text
 body_shown (shown.People people) = compact_text (people_data people)
+body_shown (shown.Me person) = compact_text (person_data person)
 
 -- its body. A reply to the console and a verdict on another image have no JSON; no call of a
 -- person's is answered with either, and the body would be empty
@@ -97,7 +101,6 @@ body_of (answer.Reply reply) = text_or_none (reply_data reply)
 body_of (answer.Shown given) = body_shown given
 body_of (answer.Verdict verdict facts) = text_or_none (verdict_data facts.components verdict)
 body_of (answer.Facts facts) = compact_text (facts_data facts)
-body_of (answer.Me person) = compact_text (person_data person)
 body_of (answer.Refused refused) = compact_text (refusals.refused_data refused)
 body_of (answer.Unavailable outage) = compact_text (refusals.outage_data outage)
 
@@ -111,7 +114,6 @@ said_of (answer.Reply reply) = said.Given
 said_of (answer.Shown given) = said.Given
 said_of (answer.Verdict verdict facts) = said.Given
 said_of (answer.Facts facts) = said.Given
-said_of (answer.Me person) = said.Given
 said_of (answer.Refused refused) = said.Refused refused
 said_of (answer.Unavailable outage) = said.Unavailable outage
 

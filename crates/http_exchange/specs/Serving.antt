@@ -5,7 +5,7 @@ use Rattle.base.specs.Output.{AppendsBeginning}
 use Rattle.http_responses.specs.declared.outage.Outage.TheVariants as outage
 use Rattle.desk_history.specs.Calls.{History}
 use Rattle.http_calls.specs.Answers.{AnswersCall, GivesNothing, IsClosed, no_memory, store_failed}
-use Rattle.http_calls.specs.Desks.{ForEachShown, StillShows}
+use Rattle.desk_exports.specs.Desks.{ForEachShown, StillShows}
 use Rattle.http_calls.specs.declared.answers.TaskAnswer.{TaskAnswer}
 use Rattle.http_calls.specs.declared.answers.TaskAnswer.TheVariants.{Refused}
 use Rattle.http_exchange.specs.Asked.{Asks, CallOrRefusal, HasByte, LeavesBody}

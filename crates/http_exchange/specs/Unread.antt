@@ -2,7 +2,7 @@
 use Rattle.std.specs.Prelude.{◌≡◌, ◌≢◌, ⊤, ℕ, List, Option, Some, None, Result, Ok, Err, IfErr, IfSome, IsErr}
 use Rattle.desk_history.specs.Calls.{History}
 use Rattle.http_responses.specs.declared.outage.Outage.TheVariants as outage
-use Rattle.http_calls.specs.Desks.{ForEachShown, StillShows}
+use Rattle.desk_exports.specs.Desks.{ForEachShown, StillShows}
 use Rattle.http_exchange.specs.Asked.{Asks, CallOrRefusal}
 use Rattle.http_exchange.specs.declared.served.Unread.{Unread}
 use Rattle.http_exchange.specs.declared.served.Unread.TheVariants as unread

@@ -14,10 +14,10 @@ ghost use Rattle.http_exchange.specs.declared.intake.RequestReader.{RequestReade
 use crate::intake::RequestReader;
 use crate::served::{CallOrRefusal, Unread};
 use crate::tasks::task_with_body;
-use http_calls::{TaskAsked, Task};
 use desk_types::Person;
+use http_calls::{Task, TaskAsked};
 use http_requests::{
-    AskedFault, BodyFault, CommandRoute, GetRoute, ImageRoute, PostRoute, ReadAsked, Route, CheckedHead,
+    AskedFault, BodyFault, CheckedHead, CommandRoute, GetRoute, ImageRoute, PostRoute, Route,
     command_asked, image_asked, read_asked, tag_asked,
 };
 use http_responses::{Outage, Refused};
@@ -42,22 +42,21 @@ fn refuse(fault: AskedFault) -> Result<CallOrRefusal, Unread>
 }
 
 /// The call of a person for a reading.
-fn ask_to_read(person: Person, route: GetRoute, wanted: &CheckedHead<'_>) -> Result<CallOrRefusal, Unread>
+fn ask_to_read(
+    person: Person,
+    route: GetRoute,
+    wanted: &CheckedHead<'_>,
+) -> Result<CallOrRefusal, Unread>
     ensures asked { IfOk result (λ due.
         due ≡ spec.of_read person (asks.read_at route (shown wanted.now))) }
     ensures named { IfErr result IsOwn }
     ensures cause { (intake : Reading) → IsCaused intake intake result }
 {
     match read_asked(route, wanted) {
-        Ok(ReadAsked::Desk(reading)) => Ok(Ok(TaskAsked {
+        Ok(reading) => Ok(Ok(TaskAsked {
             person,
             tag: None,
             task: Task::Read(reading),
-        })),
-        Ok(ReadAsked::Me) => Ok(Ok(TaskAsked {
-            person,
-            tag: None,
-            task: Task::Me,
         })),
         Err(fault) => refuse(fault),
     }

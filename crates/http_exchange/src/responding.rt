@@ -11,8 +11,8 @@ ghost use Rattle.http_exchange.specs.Sending as sending;
 
 use crate::{Answered, HttpFault, Said, Served};
 use base::put;
+use desk_exports::{Published, Shown};
 use http_calls::TaskAnswer;
-use desk_exports::Shown;
 use http_responses::{
     Content, Outage, RequestsText, Status, changes_json, facts_json, impact_json, outage_response,
     people_json, person_json, proposal_json, proposals_json, refused_response, reply_json,
@@ -29,6 +29,16 @@ fn json_response(alloc: Global, json: Option<Vec<u8>>) -> Result<Vec<u8>, AllocE
     match json {
         Some(text) => response(alloc, Status::Ok, Content::Json, text),
         None => response(alloc, Status::Ok, Content::Json, Vec::new(alloc)),
+    }
+}
+
+/// The content of an export.
+fn content_of(what: Published) -> Content
+    ensures { result ≡ spec.content_published what }
+{
+    match what {
+        Published::Dbx | Published::Db => Content::Bytes,
+        Published::Level => Content::Text,
     }
 }
 
@@ -53,14 +63,15 @@ fn response_with(alloc: Global, shown: Shown<RequestsText>) -> Result<Vec<u8>, A
             )
         }
         Shown::Changes(changes) => json_response(alloc, Some(changes_json(alloc, changes)?)),
-        Shown::Dbx(bytes) => response(alloc, Status::Ok, Content::Bytes, bytes.into_vec()),
-        Shown::Db(bytes) => response(alloc, Status::Ok, Content::Bytes, bytes.into_vec()),
-        Shown::Level(text) => response(alloc, Status::Ok, Content::Text, text.into_vec()),
+        Shown::Export(what, bytes) => {
+            response(alloc, Status::Ok, content_of(what), bytes.into_vec())
+        }
         Shown::Report(text) => response(alloc, Status::Ok, Content::Text, text.into_vec()),
         Shown::Minutes(text) => response(alloc, Status::Ok, Content::Text, text.into_vec()),
         Shown::People(people) => {
             json_response(alloc, Some(people_json(alloc, people.as_slice())?))
         }
+        Shown::Me(person) => json_response(alloc, Some(person_json(alloc, &person)?)),
     }
 }
 
@@ -77,7 +88,6 @@ fn response_to(alloc: Global, answer: TaskAnswer) -> Result<Vec<u8>, Outage>
             Ok(json_response(alloc, verdict_json(alloc, verdict, &facts)?)?)
         }
         TaskAnswer::Facts(facts) => Ok(json_response(alloc, Some(facts_json(alloc, &facts)?))?),
-        TaskAnswer::Me(person) => Ok(json_response(alloc, Some(person_json(alloc, &person)?))?),
         TaskAnswer::Refused(refused) => Ok(refused_response(alloc, refused)?),
         TaskAnswer::Unavailable(outage) => Err(outage),
     }

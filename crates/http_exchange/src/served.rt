@@ -32,8 +32,7 @@ impl Answered {
             TaskAnswer::Reply(_)
             | TaskAnswer::Shown(_)
             | TaskAnswer::Verdict(_, _)
-            | TaskAnswer::Facts(_)
-            | TaskAnswer::Me(_) => Answered {
+            | TaskAnswer::Facts(_) => Answered {
                 status: Status::Ok,
                 said: Said::Given,
             },

@@ -2,7 +2,7 @@
 ghost use Rattle.std.specs.Prelude.{◌≡◌, ◌≢◌, [], Ok, Some};
 ghost use Rattle.std.specs.Prelude.{IfErr, IfOk, IfSome, MatchOption, OnErr};
 ghost use Rattle.http_calls.specs.Answers.{Serves, store_failed};
-ghost use Rattle.http_calls.specs.Desks.{StillShows, ForEachShown};
+ghost use Rattle.desk_exports.specs.Desks.{StillShows, ForEachShown};
 ghost use Rattle.http_calls.specs.declared.answers.TaskAnswer.{TaskAnswer};
 ghost use Rattle.http_exchange.specs.Asked.{HasByte, LeavesBody};
 ghost use Rattle.http_exchange.specs.Intakes.{EndIsCaused};
@@ -13,7 +13,8 @@ use crate::reading::read_due;
 use crate::responding::send_answer;
 use crate::served::{CallOrRefusal, Unread};
 use crate::{HttpFault, Served};
-use http_calls::{TaskAnswer, AnswersCalls, answer};
+use desk_exports::AnswersCalls;
+use http_calls::{TaskAnswer, answer};
 use http_requests::Routes;
 use std::alloc::Global;
 use std::io::{Read, Write};

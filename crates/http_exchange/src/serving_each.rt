@@ -5,8 +5,7 @@ ghost use Rattle.http_exchange.specs.Each.{ServesEach, ServesNext, has_failed};
 use crate::intake::RequestReader;
 use crate::serving::serve_one;
 use crate::{Answered, Said, Served};
-use http_calls::AnswersCalls;
-use desk_exports::Octets;
+use desk_exports::{AnswersCalls, Octets};
 use http_requests::Routes;
 use http_responses::Outage;
 use std::alloc::Global;
@@ -40,7 +39,14 @@ fn serve_next<D: AnswersCalls, W: Write>(
     ensures closed { D.failed desk.old → desk.new ≡ desk.old }
 {
     let mut reader = input;
-    match serve_one(alloc, routes, desk, &mut reader, &mut RequestReader::new(), writer) {
+    match serve_one(
+        alloc,
+        routes,
+        desk,
+        &mut reader,
+        &mut RequestReader::new(),
+        writer,
+    ) {
         Ok(Served::Answered(answered)) => !is_failure(answered),
         Ok(Served::Nothing) => true,
         Err(_) => false,

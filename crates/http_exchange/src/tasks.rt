@@ -3,9 +3,9 @@ ghost use Rattle.std.specs.Prelude.{◌≡◌, IfErr, IfOk, Some};
 ghost use Rattle.http_requests.specs.bodies.Bodies.{Refuses};
 ghost use Rattle.http_exchange.specs.Tasks as spec;
 
-use http_calls::Task;
 use desk_exports::Octets;
 use desk_types::{Command, Key};
+use http_calls::Task;
 use http_requests::{
     BodyFault, CommandAsked, JsonAsked, read_digest, read_explanation, read_level, read_review,
     read_unlist,

@@ -5,7 +5,7 @@ ghost use Rattle.http_exchange.specs.Serving.{AnswersOne};
 ghost use Rattle.http_net.specs.Wire.{IsOneRequest};
 
 use crate::{Timed, read_off};
-use http_calls::AnswersCalls;
+use desk_exports::AnswersCalls;
 use http_exchange::{HttpFault, RequestReader, Served, serve_one};
 use http_requests::Routes;
 use std::alloc::Global;

@@ -5,7 +5,7 @@ ghost use Rattle.http_exchange.specs.Serving.{FailsFirst};
 ghost use Rattle.http_exchange.specs.declared.served.HttpFault.{HttpFault as Fault};
 ghost use Rattle.http_exchange.specs.declared.served.Served.{Served as Came};
 
-use http_calls::AnswersCalls;
+use desk_exports::AnswersCalls;
 use http_exchange::{HttpFault, Served};
 use std::alloc::Global;
 

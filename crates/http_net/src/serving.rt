@@ -8,7 +8,7 @@ use crate::connection::serve_stream;
 use crate::peers::Peers;
 use crate::served::ending_refusal;
 use base::Refusal;
-use http_calls::AnswersCalls;
+use desk_exports::AnswersCalls;
 use http_exchange::{HttpFault, Served};
 use http_requests::Routes;
 use std::alloc::Global;

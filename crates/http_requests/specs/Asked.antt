@@ -14,8 +14,8 @@ use Rattle.http_requests.specs.declared.ask.ImageAsked.{ImageAsked}
 use Rattle.http_requests.specs.declared.ask.ImageAsked.TheVariants as image
 use Rattle.http_requests.specs.declared.ask.JsonAsked.TheVariants as json
 use Rattle.http_requests.specs.declared.ask.KeyedCommand.{KeyedCommand}
-use Rattle.http_requests.specs.declared.ask.ReadAsked.{ReadAsked}
-use Rattle.http_requests.specs.declared.ask.ReadAsked.TheVariants.{Desk, Me}
+use Rattle.desk_exports.specs.declared.published.Published.TheVariants as published
+use Rattle.desk_exports.specs.declared.reading.Reading.{Reading}
 use Rattle.desk_exports.specs.declared.reading.Reading.TheVariants as read
 use Rattle.http_requests.specs.declared.route.CommandRoute.{CommandRoute}
 use Rattle.http_requests.specs.declared.route.CommandRoute.TheVariants as route
@@ -78,7 +78,7 @@ abbrev pub minute_in : Want → Option ℕ
 minute_in w = minute_number w.number
 
 -- the request with such a number
-abbrev pub from_minute : Option ℕ → (ℕ → ReadAsked) → Result ReadAsked AskedFault
+abbrev pub from_minute : Option ℕ → (ℕ → Reading) → Result Reading AskedFault
 from_minute None ask = Err NoRoute
 from_minute (Some number) ask = Ok (ask number)
 
@@ -88,23 +88,23 @@ of_proposal None ask = Err NoSuchProposal
 of_proposal (Some number) ask = Ok (ask number)
 
 -- the request of a GET
-abbrev pub read_at : GetRoute → Want → Result ReadAsked AskedFault
-read_at get.Requests w = Ok (Desk read.Requests)
-read_at get.Request w = numbered (number_in w) (λ number. Desk (read.Request number))
-read_at get.RequestsFrom w = from_minute (minute_in w) (λ number. Desk (read.RequestsFrom number))
-read_at get.Proposals w = Ok (Desk read.Proposals)
-read_at get.Proposal w = of_proposal (number_in w) (λ number. Desk (read.Proposal number))
-read_at get.Impact w = of_proposal (number_in w) (λ number. Desk (read.Impact number))
-read_at get.ProposalsFrom w = from_minute (minute_in w) (λ number. Desk (read.ProposalsFrom number))
-read_at get.Waiting w = Ok (Desk read.Waiting)
-read_at get.Changes w = Ok (Desk read.Changes)
-read_at get.Dbx w = Ok (Desk read.Dbx)
-read_at get.Db w = Ok (Desk read.Db)
-read_at get.Level w = Ok (Desk read.Level)
-read_at get.Report w = Ok (Desk read.Report)
-read_at get.Minutes w = from_minute (minute_in w) (λ number. Desk (read.Minutes number))
-read_at get.People w = Ok (Desk read.People)
-read_at get.Me w = Ok Me
+abbrev pub read_at : GetRoute → Want → Result Reading AskedFault
+read_at get.Requests w = Ok read.Requests
+read_at get.Request w = numbered (number_in w) (λ number. read.Request number)
+read_at get.RequestsFrom w = from_minute (minute_in w) (λ number. read.RequestsFrom number)
+read_at get.Proposals w = Ok read.Proposals
+read_at get.Proposal w = of_proposal (number_in w) (λ number. read.Proposal number)
+read_at get.Impact w = of_proposal (number_in w) (λ number. read.Impact number)
+read_at get.ProposalsFrom w = from_minute (minute_in w) (λ number. read.ProposalsFrom number)
+read_at get.Waiting w = Ok read.Waiting
+read_at get.Changes w = Ok read.Changes
+read_at get.Dbx w = Ok (read.Export published.Dbx)
+read_at get.Db w = Ok (read.Export published.Db)
+read_at get.Level w = Ok (read.Export published.Level)
+read_at get.Report w = Ok read.Report
+read_at get.Minutes w = from_minute (minute_in w) (λ number. read.Minutes number)
+read_at get.People w = Ok read.People
+read_at get.Me w = Ok read.Me
 
 -- the request with an image under a key
 abbrev pub with_image : Option (List ℕ) → (List ℕ → Result ImageAsked AskedFault) → Result ImageAsked AskedFault

@@ -1,17 +1,7 @@
 //! A request without its body.
 
-use desk_exports::Reading;
 use desk_types::{Command, Key, ProposalNumber, RequestNumber, Title};
 use sbat::Stamp;
-
-/// A request to read.
-#[derive(Clone, Copy, Debug, PartialEq, Eq)]
-pub enum ReadAsked {
-    /// From the desk.
-    Desk(Reading),
-    /// The caller's own name and role.
-    Me,
-}
 
 /// A request with an image. A command has the key under which the caller gives it.
 #[derive(Debug, Drop)]

@@ -7,10 +7,10 @@ ghost use Rattle.http_requests.specs.declared.fault.AskedFault.TheVariants.{NoSu
 
 use crate::target::minute_number;
 use crate::{
-    AskedFault, BytesAsked, CommandAsked, CommandRoute, GetRoute, ImageAsked, ImageRoute,
-    JsonAsked, KeyedCommand, ReadAsked, CheckedHead,
+    AskedFault, BytesAsked, CheckedHead, CommandAsked, CommandRoute, GetRoute, ImageAsked,
+    ImageRoute, JsonAsked, KeyedCommand,
 };
-use desk_exports::Reading;
+use desk_exports::{Published, Reading};
 use desk_types::{Command, GREATEST_NUMBER, Key, ProposalNumber, RequestNumber, TextFault, Title};
 use sbat::Stamp;
 use std::alloc::Global;
@@ -100,26 +100,26 @@ fn minute(wanted: &CheckedHead<'_>) -> Result<u64, AskedFault>
 /// at a path of proposals NoSuchProposal; at the paths of the minutes and of parts of lists it is 1
 /// to 7 such digits, or NoRoute, which `check_head` gives before. To be called once the caller is
 /// known.
-pub fn read_asked(route: GetRoute, wanted: &CheckedHead<'_>) -> Result<ReadAsked, AskedFault>
+pub fn read_asked(route: GetRoute, wanted: &CheckedHead<'_>) -> Result<Reading, AskedFault>
     ensures { spec.Gives (spec.read_at route (want.shown wanted.now)) result }
 {
     match route {
-        GetRoute::Requests => Ok(ReadAsked::Desk(Reading::Requests)),
-        GetRoute::Request => Ok(ReadAsked::Desk(Reading::Request(number(wanted)?))),
-        GetRoute::RequestsFrom => Ok(ReadAsked::Desk(Reading::RequestsFrom(minute(wanted)?))),
-        GetRoute::Proposals => Ok(ReadAsked::Desk(Reading::Proposals)),
-        GetRoute::Proposal => Ok(ReadAsked::Desk(Reading::Proposal(proposal(wanted)?))),
-        GetRoute::Impact => Ok(ReadAsked::Desk(Reading::Impact(proposal(wanted)?))),
-        GetRoute::ProposalsFrom => Ok(ReadAsked::Desk(Reading::ProposalsFrom(minute(wanted)?))),
-        GetRoute::Waiting => Ok(ReadAsked::Desk(Reading::Waiting)),
-        GetRoute::Changes => Ok(ReadAsked::Desk(Reading::Changes)),
-        GetRoute::Dbx => Ok(ReadAsked::Desk(Reading::Dbx)),
-        GetRoute::Db => Ok(ReadAsked::Desk(Reading::Db)),
-        GetRoute::Level => Ok(ReadAsked::Desk(Reading::Level)),
-        GetRoute::Report => Ok(ReadAsked::Desk(Reading::Report)),
-        GetRoute::Minutes => Ok(ReadAsked::Desk(Reading::Minutes(minute(wanted)?))),
-        GetRoute::People => Ok(ReadAsked::Desk(Reading::People)),
-        GetRoute::Me => Ok(ReadAsked::Me),
+        GetRoute::Requests => Ok(Reading::Requests),
+        GetRoute::Request => Ok(Reading::Request(number(wanted)?)),
+        GetRoute::RequestsFrom => Ok(Reading::RequestsFrom(minute(wanted)?)),
+        GetRoute::Proposals => Ok(Reading::Proposals),
+        GetRoute::Proposal => Ok(Reading::Proposal(proposal(wanted)?)),
+        GetRoute::Impact => Ok(Reading::Impact(proposal(wanted)?)),
+        GetRoute::ProposalsFrom => Ok(Reading::ProposalsFrom(minute(wanted)?)),
+        GetRoute::Waiting => Ok(Reading::Waiting),
+        GetRoute::Changes => Ok(Reading::Changes),
+        GetRoute::Dbx => Ok(Reading::Export(Published::Dbx)),
+        GetRoute::Db => Ok(Reading::Export(Published::Db)),
+        GetRoute::Level => Ok(Reading::Export(Published::Level)),
+        GetRoute::Report => Ok(Reading::Report),
+        GetRoute::Minutes => Ok(Reading::Minutes(minute(wanted)?)),
+        GetRoute::People => Ok(Reading::People),
+        GetRoute::Me => Ok(Reading::Me),
     }
 }
 

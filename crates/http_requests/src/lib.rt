@@ -16,12 +16,13 @@ mod target;
 mod want;
 mod wanting;
 
-pub use ask::{BytesAsked, CommandAsked, ImageAsked, JsonAsked, KeyedCommand, ReadAsked};
+pub use ask::{BytesAsked, CommandAsked, ImageAsked, JsonAsked, KeyedCommand};
 pub use asking::{command_asked, image_asked, read_asked};
 pub use bodies::{BodyFault, read_digest, read_explanation, read_level, read_review, read_unlist};
 pub use fault::{AskedFault, WantedFault};
 pub use heads::{
-    HeadRead, Given, Head, ParsedHead, head_is_one, read_body, read_head, what_follows_changes_nothing,
+    Given, Head, HeadRead, ParsedHead, head_is_one, read_body, read_head,
+    what_follows_changes_nothing,
 };
 pub use laws::{
     no_other_path_is_found, other_paths_are_found, paths_of_lists_are_found,

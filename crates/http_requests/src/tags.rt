@@ -5,7 +5,7 @@ ghost use Rattle.http_requests.specs.Tags as spec;
 ghost use Rattle.http_requests.specs.CheckedHead as want;
 ghost use Rattle.http_requests.specs.heads.Fields.{occurrence};
 
-use crate::{AskedFault, CommandRoute, Given, ImageRoute, PostRoute, CheckedHead};
+use crate::{AskedFault, CheckedHead, CommandRoute, Given, ImageRoute, PostRoute};
 use base::Digest;
 
 /// Whether If-Match counts at the route.

@@ -6,7 +6,7 @@ ghost use Rattle.http_requests.specs.heads.Fields as parts;
 ghost use Rattle.http_requests.specs.CheckedHead as spec;
 
 use crate::fields::checked_fields;
-use crate::{Head, ParsedHead, Route, Routes, CheckedHead, WantedFault};
+use crate::{CheckedHead, Head, ParsedHead, Route, Routes, WantedFault};
 
 /// The length of the route's body, where this one is announced.
 fn size(route: Route, length: Option<u64>) -> Result<usize, WantedFault>

@@ -21,3 +21,4 @@ mod ImpactLemmas
 mod RefusalLemmas
 mod ReadingLemmas
 mod MemoryLemmas
+mod AnsweringLemmas

@@ -6,11 +6,7 @@ use Rattle.sqlite.specs.State.{HasCleanDisk}
 use Rattle.base.specs.declared.refusal.Refusal.{Refusal}
 use Rattle.base.specs.declared.refusal.Refusal.TheVariants as refusals
 use Rattle.desk_exports.specs.Readings.{may_refuse}
-use Rattle.desk_exports.specs.declared.export.Export.{Export}
-use Rattle.desk_exports.specs.declared.export.Export.TheVariants as exports
 use Rattle.desk_exports.specs.declared.reading.Reading.{Reading}
-use Rattle.desk_exports.specs.declared.shown.Shown.{Shown}
-use Rattle.desk_exports.specs.declared.shown.Shown.TheVariants as shown
 use Rattle.desk_history.specs.Calls.{History}
 use Rattle.store_reads.specs.Failures.{IsFailure}
 use Rattle.store_desk.specs.Desks.{ForEachShown, KeepsDesk}
@@ -46,11 +42,3 @@ module _ {S A : Type 0} (g : Ghosts S) (old new : Desk S) (result : Result A Ref
   RefusesDue =
       HasCleanDisk (state g new.conn)
       → IfErr result (λ refusal. refusal ≢ refusals.NoMemory → refusal ≢ refusals.Store → ForEachShown g old (λ owner cs. due owner cs (Err refusal)))
-
--- an export, as it is shown. own: shim's form is one of dbx; nobody asks to read it
-abbrev pub shown_export : {L : Type 0} → Export → List ℕ → Shown L
-shown_export exports.Db bytes = shown.Db bytes
-shown_export exports.Dbx bytes = shown.Dbx bytes
-shown_export exports.Shim bytes = shown.Dbx bytes
-shown_export exports.Level bytes = shown.Level bytes
-shown_export exports.Minutes bytes = shown.Minutes bytes

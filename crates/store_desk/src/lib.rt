@@ -3,6 +3,7 @@
 #![tactic(auto)]
 
 mod acting;
+mod answering;
 mod answers;
 mod asking;
 mod closing;

@@ -7,17 +7,18 @@ ghost use Rattle.store_desk.specs.Showing.{RefusesDue};
 
 use crate::desk::Desk;
 use base::Refusal;
-use desk_exports::{Export, Reading, RequestList, Shown};
+use desk_exports::{Reading, RequestList, Shown};
+use desk_history::ShownPerson;
 use desk_types::{Caller, Person};
 use sqlite::Alter;
 
 impl<S: Alter + Drop> Desk<S> {
     /// What the person is shown, each by the call of its name: `requests_of`, `requests_from`,
     /// `request`, `proposals`, `proposals_from`, `proposal`, `impact`, `waiting`, `changes`, `export`
-    /// into memory, `report`, `minutes_from`, `people`.
+    /// into memory, `report`, `minutes_from`, `people`; the person's own name and role by none.
     /// Requests are collected into an `L`. The report is for officers: anybody else gets
-    /// `NotYourRole`, even from a desk that has to be opened again. Nothing is changed. Takes
-    /// memory for what is shown.
+    /// `NotYourRole`, even from a desk that has to be opened again, and so gets everybody their own
+    /// name and role. Nothing is changed. Takes memory for what is shown.
     ///
     /// `NotYourRole`, `UnknownCaller`, `NoSuchRequest`, `NoSuchProposal`, `ProposalClosed`,
     /// `AlreadyRevoked`, `NotHigher`, `StampNotLater`, `Full`: as those calls say. `NoMemory`:
@@ -39,23 +40,24 @@ impl<S: Alter + Drop> Desk<S> {
             × (self.new ≡ self.old) }
     {
         let Person { name, role, .. } = person;
-        let caller = Caller::Person(name);
         match reading {
-            Reading::Requests => self.show_requests(&caller),
-            Reading::RequestsFrom(number) => self.show_requests_from(&caller, number),
-            Reading::Request(number) => self.show_request(&caller, number),
-            Reading::Proposals => self.show_proposals(&caller),
-            Reading::ProposalsFrom(number) => self.show_proposals_from(&caller, number),
-            Reading::Proposal(number) => self.show_proposal(&caller, number),
-            Reading::Impact(number) => self.show_impact(&caller, number),
-            Reading::Waiting => self.show_waiting(&caller),
-            Reading::Changes => self.show_changes(&caller),
-            Reading::Dbx => self.show_export(Export::Dbx),
-            Reading::Db => self.show_export(Export::Db),
-            Reading::Level => self.show_export(Export::Level),
+            Reading::Requests => self.show_requests(&Caller::Person(name)),
+            Reading::RequestsFrom(number) => self.show_requests_from(&Caller::Person(name), number),
+            Reading::Request(number) => self.show_request(&Caller::Person(name), number),
+            Reading::Proposals => self.show_proposals(&Caller::Person(name)),
+            Reading::ProposalsFrom(number) => self.show_proposals_from(
+                &Caller::Person(name),
+                number,
+            ),
+            Reading::Proposal(number) => self.show_proposal(&Caller::Person(name), number),
+            Reading::Impact(number) => self.show_impact(&Caller::Person(name), number),
+            Reading::Waiting => self.show_waiting(&Caller::Person(name)),
+            Reading::Changes => self.show_changes(&Caller::Person(name)),
+            Reading::Export(what) => self.show_export(what),
             Reading::Report => self.show_report(role),
-            Reading::Minutes(from) => self.show_minutes(&caller, from),
-            Reading::People => self.show_people(&caller),
+            Reading::Minutes(from) => self.show_minutes(&Caller::Person(name), from),
+            Reading::People => self.show_people(&Caller::Person(name)),
+            Reading::Me => Ok(Shown::Me(ShownPerson { name, role })),
         }
     }
 }

@@ -5,6 +5,7 @@ ghost use Rattle.sqlite.specs.Held.{state};
 ghost use Rattle.sqlite.specs.State.{HasCleanDisk};
 ghost use Rattle.desk_exports.specs.Exports.{exported};
 ghost use Rattle.desk_exports.specs.MinutesShown.{minutes_for};
+ghost use Rattle.desk_exports.specs.Published.{export_of};
 ghost use Rattle.desk_exports.specs.Readings as told;
 ghost use Rattle.desk_exports.specs.Reports as reports;
 ghost use Rattle.desk_exports.specs.declared.reading.Reading.TheVariants as read;
@@ -16,11 +17,11 @@ ghost use Rattle.desk_history.specs.Shown.{IsGiven, proposals_for, request_for, 
 ghost use Rattle.store_reads.specs.Failures.{IsFailure};
 ghost use Rattle.store_desk.specs.Desks.{ForEachShown, ReadsDesk};
 ghost use Rattle.store_desk.specs.Showing.{GivesDue, IsReadingRefusal, IsReopened, ReadsOnly};
-ghost use Rattle.store_desk.specs.Showing.{RefusesDue, shown_export};
+ghost use Rattle.store_desk.specs.Showing.{RefusesDue};
 
 use crate::desk::Desk;
 use base::Refusal;
-use desk_exports::{Export, Octets, RequestList, Shown, ShownPeople, ShownProposals};
+use desk_exports::{Export, Octets, Published, RequestList, Shown, ShownPeople, ShownProposals};
 use desk_types::{Caller, ProposalNumber, RequestNumber, Role};
 use sqlite::Alter;
 use store_counts::report_is_the_history;
@@ -36,18 +37,6 @@ fn into_memory(refusal: Refusal) -> Refusal
         return Refusal::NoMemory;
     }
     refusal
-}
-
-/// The export, as it is shown.
-fn shown_as<L>(what: Export, bytes: Octets) -> Shown<L>
-    ensures { result ≡ shown_export what bytes }
-{
-    match what {
-        Export::Db => Shown::Db(bytes),
-        Export::Dbx | Export::Shim => Shown::Dbx(bytes),
-        Export::Level => Shown::Level(bytes),
-        Export::Minutes => Shown::Minutes(bytes),
-    }
 }
 
 impl<S: Alter + Drop> Desk<S> {
@@ -180,18 +169,19 @@ impl<S: Alter + Drop> Desk<S> {
     /// An export, which everybody is shown.
     pub(crate) fn show_export<L: RequestList + Drop>(
         &mut self,
-        what: Export,
+        what: Published,
     ) -> Result<Shown<L>, Refusal>
         ensures shown { GivesDue S.Store self.old self.new result (λ owner cs given.
-            given ≡ Ok (shown_export what (exported what owner cs))) }
+            given ≡ Ok (Shown.Export what (exported (export_of what) owner cs))) }
         ensures refused { RefusesDue S.Store self.old self.new result (λ owner cs given.
-            given ≡ Ok (shown_export what (exported what owner cs))) }
-        ensures reads { ReadsOnly S.Store (IsReadingRefusal read.Dbx) self.old self.new result }
+            given ≡ Ok (Shown.Export what (exported (export_of what) owner cs))) }
+        ensures reads { ReadsOnly S.Store (IsReadingRefusal (read.Export what))
+            self.old self.new result }
         ensures closed { self.old.needs_reopening ≡ true
             → IsReopened result × (self.new ≡ self.old) }
     {
-        match self.octets_of(what) {
-            Ok(bytes) => Ok(shown_as(what, bytes)),
+        match self.octets_of(what.export()) {
+            Ok(bytes) => Ok(Shown::Export(what, bytes)),
             Err(refusal) => Err(refusal),
         }
     }

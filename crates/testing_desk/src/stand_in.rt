@@ -1,20 +1,20 @@
 //! A substitute for a desk, which records its calls and answers everybody the same.
 ghost use Rattle.std.specs.Prelude.{◌≡◌, ◌⊎◌, ⊤, IfSome, IsTrue, true};
-ghost use Rattle.http_calls.specs.Desks.{IsOutage};
+ghost use Rattle.desk_exports.specs.Desks.{IsOutage};
 ghost use Rattle.desk_exports.specs.Readings.{may_refuse};
 ghost use Rattle.desk_history.specs.DecisionRefusals.{may_answer};
 
 use base::{Digest, Refusal};
-use http_calls::AnswersCalls;
-use desk_exports::{Octets, Reading, Shown, ShownPeople, ShownProposals};
-use desk_history::{BarredImage, WhichFile, ProposalRow, Rule, ShownImpact, ShownPerson, Verdict};
+use desk_exports::{
+    AnswersCalls, Octets, Published, Reading, RequestList, Shown, ShownPeople, ShownProposals,
+};
+use desk_history::{BarredImage, ProposalRow, Rule, ShownImpact, ShownPerson, Verdict, WhichFile};
 use desk_inputs::token_digest;
 use desk_types::{
     Caller, Carried, Command, Confirmation, Counts, Facts, Import, Key, Outcome, Person,
     PersonName, Proposal, ProposalKind, ProposalNumber, ProposalState, Reply, RequestNumber, Role,
     ShownRequest, ShownVotes, State, Title, command_text,
 };
-use http_responses::RequestsText;
 use pe_image::Extent;
 use sbat::Components;
 use std::alloc::{AllocError, Global};
@@ -63,12 +63,13 @@ fn word_of(reading: &Reading) -> &'static str {
         Reading::Impact(_) => "impact",
         Reading::Waiting => "waiting",
         Reading::Changes => "changes",
-        Reading::Dbx => "dbx",
-        Reading::Db => "db",
-        Reading::Level => "level",
+        Reading::Export(Published::Dbx) => "dbx",
+        Reading::Export(Published::Db) => "db",
+        Reading::Export(Published::Level) => "level",
         Reading::Report => "report",
         Reading::Minutes(_) => "minutes",
         Reading::People => "people",
+        Reading::Me => "me",
     }
 }
 
@@ -80,7 +81,7 @@ fn tell_reading(
 ) -> Result<(), AllocError> {
     tell(asked, &[word_of(reading)])?;
     match reading {
-        Reading::Dbx | Reading::Db | Reading::Level | Reading::Report => Ok(()),
+        Reading::Export(_) | Reading::Report => Ok(()),
         _ => tell(asked, &[name.as_str()]),
     }
 }
@@ -243,24 +244,37 @@ fn octets(alloc: Global, bytes: &[u8]) -> Option<Octets> {
     Some(Octets::new(copy))
 }
 
-/// What is shown, or `None` if memory is refused.
-fn given(alloc: Global, reading: &Reading) -> Option<Shown<RequestsText>> {
+/// The bytes of an export.
+fn exported(what: Published) -> &'static [u8] {
+    match what {
+        Published::Dbx => b"\ndbx",
+        Published::Db => b"",
+        Published::Level => b"sbat,1,2021030218\n",
+    }
+}
+
+/// What the person is shown, or `None` if memory is refused.
+fn given<L: RequestList + Drop>(
+    alloc: Global,
+    person: Person,
+    reading: &Reading,
+) -> Option<Shown<L>> {
     Some(match reading {
-        Reading::Requests | Reading::RequestsFrom(_) => {
-            Shown::Requests(RequestsText::new(alloc))
-        }
+        Reading::Requests | Reading::RequestsFrom(_) => { Shown::Requests(L::new(alloc)) }
         Reading::Request(number) => Shown::Request(request(alloc, *number)?),
         Reading::Proposals | Reading::ProposalsFrom(_) => Shown::Proposals(proposals(alloc)?),
         Reading::Proposal(number) => Shown::Proposal(whole(alloc, *number)?),
         Reading::Impact(number) => Shown::Impact(*number, impact_of_one(alloc)?),
-        Reading::Waiting => Shown::Waiting(RequestsText::new(alloc), proposals(alloc)?),
+        Reading::Waiting => Shown::Waiting(L::new(alloc), proposals(alloc)?),
         Reading::Changes => Shown::Changes(7),
-        Reading::Dbx => Shown::Dbx(octets(alloc, b"\ndbx")?),
-        Reading::Db => Shown::Db(octets(alloc, b"")?),
-        Reading::Level => Shown::Level(octets(alloc, b"sbat,1,2021030218\n")?),
+        Reading::Export(what) => Shown::Export(*what, octets(alloc, exported(*what))?),
         Reading::Report => Shown::Report(octets(alloc, b"people 1\n")?),
         Reading::Minutes(from) => Shown::Minutes(octets(alloc, lines_from(*from))?),
         Reading::People => Shown::People(everybody(alloc)?),
+        Reading::Me => Shown::Me(ShownPerson {
+            name: person.name,
+            role: person.role,
+        }),
     })
 }
 
@@ -343,17 +357,20 @@ impl AnswersCalls for StandIn {
         }
     }
 
-    fn read(&mut self, person: Person, reading: Reading) -> Result<Shown<RequestsText>, Refusal> {
+    fn read<L: RequestList + Drop>(
+        &mut self,
+        person: Person,
+        reading: Reading,
+    ) -> Result<Shown<L>, Refusal> {
         if self.has_failed {
             return Err(Refusal::Reopen);
         }
-        let Person { name, .. } = person;
-        if tell_reading(&mut self.asked, &name, &reading).is_err() {
+        if tell_reading(&mut self.asked, &person.name, &reading).is_err() {
             return Err(Refusal::NoMemory);
         }
         match refused(&reading) {
             Some(refusal) => Err(refusal),
-            None => given(self.alloc, &reading).ok_or(Refusal::NoMemory),
+            None => given(self.alloc, person, &reading).ok_or(Refusal::NoMemory),
         }
     }
 }

@@ -1,7 +1,6 @@
 //! Desks over stores in memory, played by the lines of scripts.
 use base::{Digest, Guid, Refusal};
 use desk_rules::{View, decide};
-use store_desk::{Desk, Waits};
 use desk_types::{Call, Caller, Facts, Person, Proposal, Reply, ShownRequest, reply_text};
 use itoa::Buffer;
 use sbat::Component;
@@ -9,6 +8,7 @@ use sqlite::{Alter, Connection, MemStore};
 use std::alloc::{AllocError, Global};
 use std::process::Abort;
 use std::test::Fail;
+use store_desk::{Desk, Waits};
 use testing::Words;
 
 mod asking;

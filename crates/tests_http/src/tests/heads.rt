@@ -1,10 +1,10 @@
 //! Requests by their heads.
 use base::{Refusal, Watch};
-use desk_exports::Reading;
+use desk_exports::{Published, Reading};
 use desk_types::{Command, ProposalNumber, RequestNumber};
 use http_requests::{
-    AskedFault, HeadRead, BytesAsked, CommandAsked, ImageAsked, JsonAsked, KeyedCommand, ParsedHead,
-    PostRoute, ReadAsked, Route, Routes, CheckedHead, check_head, command_asked, image_asked,
+    AskedFault, BytesAsked, CheckedHead, CommandAsked, HeadRead, ImageAsked, JsonAsked,
+    KeyedCommand, ParsedHead, PostRoute, Route, Routes, check_head, command_asked, image_asked,
     read_asked, read_head,
 };
 use std::alloc::Global;
@@ -229,7 +229,7 @@ RaiseLevel POST /level HTTP/1.1|CONTENT-LENGTH:\t 7 \t|desk-key:k||
 /// The request of a head.
 #[derive(Drop)]
 enum Asked {
-    Read(ReadAsked),
+    Read(Reading),
     Image(ImageAsked),
     Command(KeyedCommand),
 }
@@ -265,7 +265,7 @@ fn outcome(alloc: Global, routes: &Routes, bytes: &[u8]) -> &'static str {
         Err(fault) => return fault.refusal().name(),
     };
     match ask(alloc, &wanted) {
-        Ok(Asked::Read(asked)) => name_of_read(&asked),
+        Ok(Asked::Read(reading)) => name_of_reading(&reading),
         Ok(Asked::Image(asked)) => name_of_image(&asked),
         Ok(Asked::Command(keyed)) => name_of_command(&keyed.asked),
         Err(fault) => fault.refusal().name(),
@@ -273,14 +273,6 @@ fn outcome(alloc: Global, routes: &Routes, bytes: &[u8]) -> &'static str {
 }
 
 /// The name of a GET.
-fn name_of_read(asked: &ReadAsked) -> &'static str {
-    match asked {
-        ReadAsked::Desk(reading) => name_of_reading(reading),
-        ReadAsked::Me => "Me",
-    }
-}
-
-/// The name of a reading of the desk.
 fn name_of_reading(reading: &Reading) -> &'static str {
     match reading {
         Reading::Requests => "Requests",
@@ -292,12 +284,13 @@ fn name_of_reading(reading: &Reading) -> &'static str {
         Reading::Impact(_) => "Impact",
         Reading::Waiting => "Waiting",
         Reading::Changes => "Changes",
-        Reading::Dbx => "Dbx",
-        Reading::Db => "Db",
-        Reading::Level => "Level",
+        Reading::Export(Published::Dbx) => "Dbx",
+        Reading::Export(Published::Db) => "Db",
+        Reading::Export(Published::Level) => "Level",
         Reading::Report => "Report",
         Reading::Minutes(_) => "Minutes",
         Reading::People => "People",
+        Reading::Me => "Me",
     }
 }
 
@@ -446,8 +439,8 @@ fn asks_for_title(alloc: Global) -> bool {
 /// The reading of the desk that is asked for.
 fn read_of(asked: &Asked) -> Option<Reading> {
     match asked {
-        Asked::Read(ReadAsked::Desk(reading)) => Some(*reading),
-        Asked::Read(ReadAsked::Me) | Asked::Image(_) | Asked::Command(_) => None,
+        Asked::Read(reading) => Some(*reading),
+        Asked::Image(_) | Asked::Command(_) => None,
     }
 }
 

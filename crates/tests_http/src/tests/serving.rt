@@ -15,7 +15,14 @@ pub(super) fn served<R: Read, W: Write>(
     writer: &mut W,
 ) -> Result<Served, HttpFault> {
     match Routes::new(alloc) {
-        Ok(routes) => serve_one(alloc, &routes, desk, reader, &mut RequestReader::new(), writer),
+        Ok(routes) => serve_one(
+            alloc,
+            &routes,
+            desk,
+            reader,
+            &mut RequestReader::new(),
+            writer,
+        ),
         Err(_) => Err(HttpFault::NoMemory),
     }
 }

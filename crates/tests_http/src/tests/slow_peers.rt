@@ -249,7 +249,14 @@ fn answered<R: Read + Drop, W: Write>(
     writer: &mut W,
 ) -> Result<Served, HttpFault> {
     match Routes::new(alloc) {
-        Ok(routes) => answer_connection(alloc, &routes, desk, reader, &mut RequestReader::new(), writer),
+        Ok(routes) => answer_connection(
+            alloc,
+            &routes,
+            desk,
+            reader,
+            &mut RequestReader::new(),
+            writer,
+        ),
         Err(_) => Err(HttpFault::NoMemory),
     }
 }

@@ -2,7 +2,7 @@
 //! changes in JSON.
 use base::Digest;
 use desk_history::{
-    BarredImage, Below, WhichFile, ProposalRow, Rule, ShownImpact, ShownPerson, Verdict,
+    BarredImage, Below, ProposalRow, Rule, ShownImpact, ShownPerson, Verdict, WhichFile,
 };
 use desk_types::{
     Carried, Confirmation, Counts, Digests, Facts, Import, ImportedComponents, Note, Outcome,
@@ -399,8 +399,20 @@ fn bars(alloc: Global) -> Result<Vec<BarredImage>, Fail> {
     let below = Rule::Component(component(alloc, "shim", 4)?, needed);
     let mut bars = Vec::new(alloc);
     bars.push(barred(alloc, 1, WhichFile::Submitted, State::Open, Rule::Digest)?)?;
-    bars.push(barred(alloc, 1, WhichFile::Returned, State::Signed, Rule::Certificate)?)?;
-    bars.push(barred(alloc, 999_999, WhichFile::Submitted, State::Withdrawn, below)?)?;
+    bars.push(barred(
+        alloc,
+        1,
+        WhichFile::Returned,
+        State::Signed,
+        Rule::Certificate,
+    )?)?;
+    bars.push(barred(
+        alloc,
+        999_999,
+        WhichFile::Submitted,
+        State::Withdrawn,
+        below,
+    )?)?;
     Ok(bars)
 }
 

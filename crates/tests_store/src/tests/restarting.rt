@@ -1,9 +1,9 @@
 //! A desk over two files that is opened again after its machine stopped.
 use super::closing::{ADDED, Empty, LISTED, OPTIONS, closed, empty_files, if_it_answers, new_desk};
 use super::*;
-use store_desk::{reopen, restart};
 use sqlite::{FileStore, Files};
 use sqlite_disk::{Crash, Memory as MemoryFile};
+use store_desk::{reopen, restart};
 
 /// The person lists another digest.
 const LISTED_NEXT: &str = "ann a2 list 2 : listed";

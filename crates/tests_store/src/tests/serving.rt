@@ -3,16 +3,15 @@
 use super::asking::apply;
 use super::founding::made;
 use super::*;
-use desk_answers::OpenDesk;
-use http_calls::{Answer, AnswersCalls, Call as Asked, Task};
-use desk_exports::{Octets, Reading, Shown};
-use http_exchange::serve_each;
+use desk_exports::{AnswersCalls, Octets, Published, Reading, Shown};
 use desk_inputs::token_digest;
 use desk_types::{Caller, Command, Key, PersonName, Role};
+use http_calls::{Task, TaskAnswer, TaskAsked, answer};
+use http_exchange::serve_each;
 use http_requests::Routes;
 use testing::bytes_of;
 
-type Served = OpenDesk<MemStore>;
+type Served = Desk<MemStore>;
 
 /// The people who are added before the requests, with tokens.
 const PEOPLE: &str = "\
@@ -80,12 +79,12 @@ fn add<S: Alter + Drop>(alloc: Global, desk: &mut Desk<S>, line: &str) -> Option
 }
 
 /// The desk, once its people are added.
-fn with_people<S: Alter + Drop>(alloc: Global, desk: Desk<S>) -> Option<OpenDesk<S>> {
+fn with_people<S: Alter + Drop>(alloc: Global, desk: Desk<S>) -> Option<Desk<S>> {
     let mut desk = desk;
     for line in PEOPLE.lines() {
         add(alloc, &mut desk, line)?;
     }
-    Some(OpenDesk::new(desk))
+    Some(desk)
 }
 
 /// A desk with its people.
@@ -137,26 +136,26 @@ fn served_each<D: AnswersCalls>(alloc: Global, desk: &mut D, inputs: &[Octets]) 
 }
 
 /// The question of this line's person for the level.
-fn level_asked(alloc: Global, line: &str) -> Option<Asked> {
-    Some(Asked {
+fn level_asked(alloc: Global, line: &str) -> Option<TaskAsked> {
+    Some(TaskAsked {
         person: person(alloc, line)?,
         tag: None,
-        task: Task::Read(Reading::Level),
+        task: Task::Read(Reading::Export(Published::Level)),
     })
 }
 
 /// The text of an answer that is a level.
-fn level_of(answer: Answer) -> Option<Octets> {
+fn level_of(answer: TaskAnswer) -> Option<Octets> {
     match answer {
-        Answer::Shown(Shown::Level(text)) => Some(text),
+        TaskAnswer::Shown(Shown::Export(Published::Level, text)) => Some(text),
         _ => None,
     }
 }
 
 /// The level, as the answer to a call of this line's person.
-fn level<S: Alter + Drop>(alloc: Global, desk: &mut OpenDesk<S>, line: &str) -> Option<Octets> {
+fn level<S: Alter + Drop>(alloc: Global, desk: &mut Desk<S>, line: &str) -> Option<Octets> {
     let call = level_asked(alloc, line)?;
-    level_of(desk_answers::answer(alloc, desk, call))
+    level_of(answer(alloc, desk, call))
 }
 
 /// Whether the desk serves each request of the rows with its response.
@@ -168,7 +167,7 @@ fn serves<D: AnswersCalls>(alloc: Global, desk: &mut D, rows: &str) -> Option<bo
 }
 
 /// Whether the desk has the level after the requests.
-fn has_level<S: Alter + Drop>(alloc: Global, desk: &mut OpenDesk<S>) -> Option<bool> {
+fn has_level<S: Alter + Drop>(alloc: Global, desk: &mut Desk<S>) -> Option<bool> {
     let text = level(alloc, desk, "olga officer olga-token-000005")?;
     let wanted = bytes_of(alloc, "sbat,1,2024010100~grub,3~").ok()?;
     Some(text.as_slice() == wanted.as_slice())

@@ -1,19 +1,11 @@
-use Rattle.std.proofs.Common.{inl, refl}
-use Rattle.http_calls.specs.Answers.{AnswersTask, IsPerson}
-use Rattle.http_calls.proofs.AnswerLemmas.{closed_as, closed_read, closed_told, serves_as, serves_read, serves_told}
+use Rattle.http_calls.specs.Answers.{AnswersTask}
+use Rattle.http_calls.proofs.AnswerLemmas.{closed_as, closed_read, serves_as, serves_read}
 use Rattle.http_calls.proofs.serving.answer_task.Goals as goal
 
 pub returns-in-Read-clause-served : goal.returns-in-Read-clause-served
 returns-in-Read-clause-served g c clean owner cs was =
     serves_as (g.D.AnswersCalls.shows c.show.new.desk owner) (g.D.AnswersCalls.failed c.show.new.desk) cs (λ t. AnswersTask owner cs c.args.person t) c.args.task _ c.show.result c.in-Read.is
     (c.show.ensures.served clean owner cs was)
-
-pub returns-in-Me-clause-served : goal.returns-in-Me-clause-served
-returns-in-Me-clause-served g c clean owner cs was =
-    let shows = g.D.AnswersCalls.shows c.args.desk.now owner in
-    let failed = g.D.AnswersCalls.failed c.args.desk.now in
-    serves_as shows failed cs (λ t. AnswersTask owner cs c.args.person t) c.args.task _ c.introduce.result c.in-Me.is
-    (serves_told shows failed cs (IsPerson c.args.person) c.introduce.result (inl c.introduce.ensures) was)
 
 pub returns-in-Image-clause-served : goal.returns-in-Image-clause-served
 returns-in-Image-clause-served g c clean owner cs was =
@@ -35,10 +27,6 @@ pub returns-in-Read-clause-closed : goal.returns-in-Read-clause-closed
 returns-in-Read-clause-closed g c was =
     let shut = c.show.ensures.closed was in
     (closed_as (λ t owner cs. AnswersTask owner cs c.args.person t) c.args.task _ c.show.result c.in-Read.is shut.0, shut.1)
-
-pub returns-in-Me-clause-closed : goal.returns-in-Me-clause-closed
-returns-in-Me-clause-closed g c was =
-    (closed_as (λ t owner cs. AnswersTask owner cs c.args.person t) c.args.task _ c.introduce.result c.in-Me.is (closed_told (IsPerson c.args.person) c.introduce.result (inl c.introduce.ensures)), refl)
 
 pub returns-in-Image-clause-closed : goal.returns-in-Image-clause-closed
 returns-in-Image-clause-closed g c was =

@@ -1,17 +1,10 @@
-use Rattle.std.proofs.Common.{sym}
 use Rattle.http_net.specs.Faults.{IsAnsweringRefusal}
 use Rattle.cli_opening.proofs.EndingLemmas.{rows_apart}
 use Rattle.cli_requests.proofs.ServingLemmas.{answering_apart}
 use Rattle.cli_requests.proofs.requests.OneRequestWork.work.Goals as goal
 
 pub returns-clause-did : goal.returns-clause-did
-returns-clause-did g c = record {
-  opened = c.new-desk.result;
-  closed = c.answer_one-work.new.desk;
-  before = c.new-desk.ensures;
-  after = sym c.into_desk.ensures;
-  served = c.answer_one-work.ensures.answered;
-}
+returns-clause-did g c = c.answer_one-work.ensures.answered
 
 pub returns-clause-left : goal.returns-clause-left
 returns-clause-left g c = c.answer_one-work.ensures.done

@@ -93,10 +93,15 @@ returns-in-Changes-clause-refused g c =
     refuses_for g.S.Store c.args.self.now c.show_changes.new.self c.show_changes.result (λ z owner cs. IsShownTo g.L.RequestList.holds owner cs c.args.person z) c.args.reading _ c.in-Changes.is
     c.show_changes.ensures.refused
 
-pub returns-in-Level-clause-shown : goal.returns-in-Level-clause-shown
-returns-in-Level-clause-shown g c =
-    gives_for g.S.Store c.args.self.now c.show_export-in-Level.new.self c.show_export-in-Level.result (λ z owner cs. IsShownTo g.L.RequestList.holds owner cs c.args.person z) c.args.reading _ c.in-Level.is
-    c.show_export-in-Level.ensures.shown
+pub returns-in-Export-clause-shown : goal.returns-in-Export-clause-shown
+returns-in-Export-clause-shown g c =
+    gives_for g.S.Store c.args.self.now c.show_export.new.self c.show_export.result (λ z owner cs. IsShownTo g.L.RequestList.holds owner cs c.args.person z) c.args.reading _ c.in-Export.is
+    c.show_export.ensures.shown
+
+pub returns-in-Export-clause-refused : goal.returns-in-Export-clause-refused
+returns-in-Export-clause-refused g c =
+    refuses_for g.S.Store c.args.self.now c.show_export.new.self c.show_export.result (λ z owner cs. IsShownTo g.L.RequestList.holds owner cs c.args.person z) c.args.reading _ c.in-Export.is
+    c.show_export.ensures.refused
 
 pub returns-in-Report-clause-shown : goal.returns-in-Report-clause-shown
 returns-in-Report-clause-shown g c =

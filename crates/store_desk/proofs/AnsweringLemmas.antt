@@ -1,10 +1,10 @@
--- The answers of a desk in a store, in the words of calls.
+-- The answers of a desk in a store, in the words of any desk that answers calls.
 use Rattle.std.proofs.Common.{◌≡◌, ◌≢◌, ◌⊎◌, ◌∙◌, inl, inr, ℕ, List, [], ◌∷◌, Bool, true, false, cond, filter, find, Option, Some, None, Result, Ok, Err, IsTrue, refl, subst, sym, ap}
 use Rattle.std.specs.Prelude.{IfErr, IfOk}
 use Rattle.sqlite.specs.Store as sqlite
 use Rattle.base.specs.declared.refusal.Refusal.{Refusal}
 use Rattle.base.specs.declared.refusal.Refusal.TheVariants as refusals
-use Rattle.desk_types.specs.declared.command.Call.{TaskAsked}
+use Rattle.desk_types.specs.declared.command.Call.{Call}
 use Rattle.desk_types.specs.declared.command.Person.{Person}
 use Rattle.desk_types.specs.declared.reply.Reply.{Reply}
 use Rattle.desk_history.specs.Calls.{History}
@@ -15,7 +15,7 @@ use Rattle.store_reads.specs.Reads.{listed}
 use Rattle.store_desk.specs.Desks.{Refuses, ShowsDesk}
 use Rattle.store_desk.specs.Showing as store
 use Rattle.store_desk.specs.declared.desk.Desk.{Desk}
-use Rattle.http_calls.specs.Desks.{IsReadingRefusal, person_with}
+use Rattle.desk_exports.specs.Desks.{IsReadingRefusal, person_with}
 use Rattle.desk_exports.specs.Readings.{may_refuse}
 use Rattle.desk_exports.specs.declared.reading.Reading.{Reading}
 use Rattle.desk_exports.specs.declared.reading.Reading.TheVariants as read
@@ -48,12 +48,11 @@ never_reopen (read.Proposal k) h = not_true h
 never_reopen (read.Impact k) h = not_true h
 never_reopen read.Waiting h = not_true h
 never_reopen read.Changes h = not_true h
-never_reopen read.Dbx h = not_true h
-never_reopen read.Db h = not_true h
-never_reopen read.Level h = not_true h
+never_reopen (read.Export what) h = not_true h
 never_reopen read.Report h = not_true h
 never_reopen (read.Minutes n) h = not_true h
 never_reopen read.People h = not_true h
+never_reopen read.Me h = not_true h
 
 reopens : (reading : Reading) (closed : Bool) → closed ≡ false → store.IsReadingRefusal reading refusals.Reopen ⊎ ((refusals.Reopen ≡ refusals.Reopen) × (closed ≡ true)) → ⊥
 reopens reading closed usable (inl (inl due)) = never_reopen reading due
@@ -96,7 +95,7 @@ one_person (Err refusal) token shows all = tt
 
 -- ---- commands
 
-module _ {S : Type 0} (g : sqlite.Ghosts S) (old new : Desk S) (c : TaskAsked) where
+module _ {S : Type 0} (g : sqlite.Ghosts S) (old new : Desk S) (c : Call) where
   pub refused_rules : (given : Result Reply Refusal) → IfErr given (Refuses g old new c)
       → IfErr given (λ refusal. refusal ≢ refusals.NoMemory → refusal ≢ refusals.Store → (owner : List ℕ) (cs : History) → ShowsDesk g old owner cs → answer cs c ≡ ruled.Refused refusal)
   refused_rules (Ok reply) refuses = tt
