@@ -1,6 +1,6 @@
 //! The subcommands that need no desk.
-use cli_output::{Buffered, Fault, print_facts, print_list, print_ranges, read_file, read_image};
 use base::{Guid, Refusal};
+use cli_output::{Buffered, Fault, print_facts, print_list, print_ranges, read_file, read_image};
 use desk_inputs::facts;
 use siglist::pack;
 use std::alloc::Global;

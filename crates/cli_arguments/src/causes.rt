@@ -1,8 +1,8 @@
 //! Why a file can't be opened: another look at it, after its fault was told. What is found then need
 //! not be what the subcommand met.
 use crate::line::{AuditWords, FollowWords, PersonWords, ServeWords, Words};
-use cli_output::Fault;
 use base::Refusal;
+use cli_output::Fault;
 use std::fs::OpenOptions;
 use std::{fs, io};
 

@@ -7,8 +7,8 @@ use crate::values::{
     Place, Stop, enrolled_from, export_named, owner_from, person_from, place_from, proposal_from,
 };
 use crate::words_reading::words;
-use cli_output::Fault;
 use base::{Guid, Refusal};
+use cli_output::Fault;
 use desk_exports::Export;
 use desk_types::{Key, Person, ProposalNumber};
 use std::rt::Env;
@@ -65,6 +65,16 @@ pub enum Job<'a> {
         file: &'a str,
         what: Option<Export>,
     },
+}
+
+/// What is left to do.
+#[derive(Drop)]
+pub enum Todo<'a> {
+    /// This job at a desk, which opens these files.
+    AtDesk(Job<'a>, Opened<'a>),
+    /// Nothing: the words are those of a subcommand that needs no desk, which is done, or request a
+    /// text, which is printed.
+    Done,
 }
 
 /// Makes a desk.
@@ -202,17 +212,22 @@ fn job_of<'a>(rt: &HostRuntime, line: Words<'a>) -> Result<Option<Job<'a>>, Stop
     }
 }
 
-/// Tells why there is no subcommand, and returns the status for that.
-fn tell_unread(rt: &HostRuntime, fault: WordsFault) -> u8 {
+/// Tells why there is no subcommand: a text that the words request is printed. Err: the status of
+/// any other reason.
+fn tell_unread<'a>(rt: &HostRuntime, fault: WordsFault) -> Result<Todo<'a>, u8> {
     match fault {
-        WordsFault::NoMemory => tell_fault(rt, Fault::from(Refusal::NoMemory)),
+        WordsFault::NoMemory => Err(tell_fault(rt, Fault::from(Refusal::NoMemory))),
         WordsFault::Refused(error) => {
             let _ = error.print(rt);
-            if error.use_stderr() { MISUSED } else { 0 }
+            if error.use_stderr() {
+                Err(MISUSED)
+            } else {
+                Ok(Todo::Done)
+            }
         }
         WordsFault::Missing => {
             let _ = eprintln!(rt; "error: a word is missing");
-            MISUSED
+            Err(MISUSED)
         }
     }
 }
@@ -229,18 +244,17 @@ impl Drop for Given {
     }
 }
 
-/// Reads the words after the program's name, and their values: the job, and the files that it opens.
-/// A subcommand that needs no desk is done. Err: the program ends with this status, and what there
-/// was to tell was told.
-pub fn read_job<'a>(rt: &HostRuntime, given: &'a Given) -> Result<(Job<'a>, Opened<'a>), u8> {
+/// Reads the words after the program's name, and their values, and does a subcommand that needs no
+/// desk. Err: it failed with this status, and why was told.
+pub fn job_or_done<'a>(rt: &HostRuntime, given: &'a Given) -> Result<Todo<'a>, u8> {
     let line = match words(rt.alloc(), given.words.as_slice()) {
         Ok(line) => line,
-        Err(fault) => return Err(tell_unread(rt, fault)),
+        Err(fault) => return tell_unread(rt, fault),
     };
     let opened = opened_by(line);
     match job_of(rt, line) {
-        Ok(Some(job)) => Ok((job, opened)),
-        Ok(None) => Err(0),
+        Ok(Some(job)) => Ok(Todo::AtDesk(job, opened)),
+        Ok(None) => Ok(Todo::Done),
         Err(why) => Err(tell_stop(rt, why, opened)),
     }
 }

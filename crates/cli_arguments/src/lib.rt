@@ -10,7 +10,7 @@ mod values;
 mod words_reading;
 
 pub use causes::Opened;
-pub use jobs::{Given, Job, given_words, read_job};
+pub use jobs::{Given, Job, Todo, given_words, job_or_done};
 pub use line::{AuditWords, FollowWords, PersonWords, ServeWords, Words, WordsFault};
 pub use telling::tell_ending;
 pub use values::{

@@ -1,12 +1,12 @@
 //! The Secure Boot signing and revocation desk.
 #![tactic(auto)]
 
+use cli_arguments::{Job, Todo, given_words, job_or_done, tell_ending};
 use cli_audit::run_audit;
 use cli_files::{run_add, run_export, run_impact, run_init, run_verdict};
 use cli_follow::run_follow;
 use cli_output::Ending;
 use cli_requests::{run_answer, run_serve};
-use cli_arguments::{Job, given_words, read_job, tell_ending};
 use std::process::ExitCode;
 
 /// Does a subcommand's job at a desk.
@@ -29,8 +29,9 @@ fn main(rt: HostRuntime) -> ExitCode {
         Ok(given) => given,
         Err(status) => return ExitCode::from(status),
     };
-    match read_job(&rt, &given) {
-        Ok((job, opened)) => ExitCode::from(tell_ending(&rt, run(&rt, job), opened)),
+    match job_or_done(&rt, &given) {
+        Ok(Todo::AtDesk(job, opened)) => ExitCode::from(tell_ending(&rt, run(&rt, job), opened)),
+        Ok(Todo::Done) => ExitCode::SUCCESS,
         Err(status) => ExitCode::from(status),
     }
 }

@@ -6,8 +6,8 @@ ghost use Rattle.cli_arguments.specs.values.Words.{StopsByToken};
 
 use crate::values::person::{key_from, name_from, role_from};
 use crate::values::stop::{Stop, Word};
-use cli_output::Fault;
 use base::{Digest, InputFault, Refusal};
+use cli_output::Fault;
 use desk_inputs::read_token_digest;
 use desk_types::{Key, Person};
 use std::alloc::Global;

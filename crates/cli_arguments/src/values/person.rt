@@ -8,8 +8,8 @@ ghost use Rattle.cli_arguments.specs.values.People.{Reads, StopsFirst, as_token}
 ghost use Rattle.cli_arguments.specs.values.Words.{StopsBy, StopsByToken};
 
 use crate::values::stop::{Stop, Word};
-use cli_output::Fault;
 use base::{Digest, InputFault, Refusal};
+use cli_output::Fault;
 use desk_inputs::read_token;
 use desk_types::{Key, Person, PersonName, Role, TextFault};
 use std::alloc::Global;
