@@ -13,8 +13,8 @@ ghost use Rattle.desk_exports.specs.Exports.{revoked};
 ghost use Rattle.store_schema.specs.rows.Values.{digest_values};
 ghost use Rattle.store_exports.specs.Gathering.{Gathers, TakesBody, gathered, unfound, with_certificate};
 
+use crate::columns::text_at;
 use crate::gathered::Gathered;
-use crate::lines::text_at;
 use base::Digest;
 use desk_types::{Certificate, Command, command_texts_differ};
 use sqlite::{Alter, Connection, Row};

@@ -1,6 +1,7 @@
 //! Exports of a desk, written row by row as the store gives them.
 #![tactic(auto)]
 
+mod columns;
 mod db;
 mod dbx;
 mod exporting;
@@ -15,4 +16,5 @@ mod listed_forms;
 mod shim;
 mod taking;
 
+pub use columns::{number_at, text_at};
 pub use exporting::export;

@@ -2,19 +2,18 @@
 ghost use Rattle.std.specs.Prelude.{◌≡◌, ◌∷◌, [], IfOk, OnErr, OnOk, pos};
 ghost use Rattle.std.specs.Io.KnownBytes.{Appends};
 ghost use Rattle.sqlite.specs.declared.types.Value.TheVariants.{Int, Text};
-ghost use Rattle.sqlite_value.specs.Order.{column};
 ghost use Rattle.base.specs.Output.{AppendsBeginning};
 ghost use Rattle.desk_exports.specs.Exports.{minutes_text};
 ghost use Rattle.store_exports.specs.Exporting.{Exports};
 ghost use Rattle.store_exports.specs.Lines.{columns_row, line, line_of};
 ghost use Rattle.store_exports.specs.Rows.{IsPart};
 
+use crate::columns::{number_at, text_at};
 use crate::fault::ExportFault;
 use crate::forms::RowForm;
 use crate::taking::put_rows;
 use base::{WriteFailed, put_each};
 use itoa::Buffer;
-use sqlite::types::ValueRef;
 use sqlite::{Alter, Connection, Row};
 use std::alloc::Global;
 use std::io::Write;
@@ -29,26 +28,6 @@ struct CallColumns<'a> {
     key: &'a [u8],
     text: &'a [u8],
     reply: &'a [u8],
-}
-
-/// The text of a column. `Row`: it holds something else, or there is none.
-pub(crate) fn text_at(row: &Row, at: usize) -> Result<&[u8], ReadFault>
-    ensures { IfOk result (λ text. column row.now at ≡ Text text.now) }
-{
-    match row.get_ref(at) {
-        Ok(ValueRef::Text(text)) => Ok(text),
-        _ => Err(ReadFault::Row),
-    }
-}
-
-/// The number of a column. `Row`: it holds something else, or there is none.
-fn number_at(row: &Row, at: usize) -> Result<u64, ReadFault>
-    ensures { IfOk result (λ n. column row.now at ≡ Int (pos n)) }
-{
-    match row.get(at) {
-        Ok(number) => Ok(number),
-        Err(_) => Err(ReadFault::Row),
-    }
 }
 
 /// The columns of a call's row. `Row`: it has others.

@@ -18,8 +18,8 @@ use desk_rules::verdict;
 use desk_types::{Facts, RequestNumber};
 use sqlite::{Alter, Transaction};
 use std::alloc::Global;
-use store_reads::{ReadFault, call_numbered, request_numbered};
 use store_decision_rows::list_view;
+use store_reads::{ReadFault, call_numbered, request_numbered};
 
 /// What is found of an image that isn't barred: whether it is allowed now, and the rule of the
 /// entries that would bar it.

@@ -3,7 +3,6 @@
 #![tactic(auto)]
 
 mod barring;
-mod columns;
 mod laws;
 mod passed;
 mod passing;

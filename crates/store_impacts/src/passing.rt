@@ -11,13 +11,13 @@ ghost use Rattle.store_impacts.specs.Touching.{TouchesOf};
 ghost use Rattle.std.specs.Prelude.{Some};
 
 use crate::TouchedImage;
-use crate::columns::{number_at, text_at};
 use crate::passed::{BroughtImage, passed_in};
 use base::Refusal;
-use desk_history::{WhichFile, Standing, bars};
+use desk_history::{Standing, WhichFile, bars};
 use desk_types::RequestNumber;
 use sqlite::{Alter, Connection, Row};
 use std::alloc::Global;
+use store_exports::{number_at, text_at};
 use store_reads::ReadFault;
 use store_schema::SELECT_CALLS;
 use store_sql::{Halt, TakesRow, stream};

@@ -8,7 +8,7 @@ use sqlite::types::ValueRef;
 use store_reads::ReadFault;
 
 /// The text of a column. `Row`: it holds something else, or there is none.
-pub(crate) fn text_at(row: &Row, at: usize) -> Result<&[u8], ReadFault>
+pub fn text_at(row: &Row, at: usize) -> Result<&[u8], ReadFault>
     ensures { IfOk result (λ text. column row.now at ≡ Text text.now) }
 {
     match row.get_ref(at) {
@@ -18,7 +18,7 @@ pub(crate) fn text_at(row: &Row, at: usize) -> Result<&[u8], ReadFault>
 }
 
 /// The number of a column. `Row`: it holds something else, or there is none.
-pub(crate) fn number_at(row: &Row, at: usize) -> Result<u64, ReadFault>
+pub fn number_at(row: &Row, at: usize) -> Result<u64, ReadFault>
     ensures { IfOk result (λ n. column row.now at ≡ Int (pos n)) }
 {
     match row.get(at) {
