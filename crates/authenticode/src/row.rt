@@ -1,9 +1,8 @@
 //! The certificates of one body.
 ghost use Rattle.std.specs.Prelude.{◌≡◌, ◌<◌, ℕ, List, length, IfErr, IfOk, OnOk};
 ghost use Rattle.sha2.specs.Sha256.{sha256};
-ghost use Rattle.authenticode.specs.Steps.Adding.{IsDerOnlyWhere};
+ghost use Rattle.authenticode.specs.Steps.Adding.{IsDerOnlyWhere, AddsStep, AddsAll};
 ghost use Rattle.authenticode.specs.Certificates.{GivesCertificate, IsBodyOf, IsRowOf};
-ghost use Rattle.authenticode.specs.Steps.Adding.{AddsStep, AddsAll};
 
 use crate::fault::CarriedFault;
 use crate::signed_data::{SEQUENCE, certificates};

@@ -1,5 +1,5 @@
-//! Why a file can't be opened: another look at it, after its fault was told. What is found then need
-//! not be what the subcommand met.
+//! Why a file can't be opened: another look at it, after its fault was told. What is found then
+//! need not be what the subcommand met.
 use crate::line::{AuditWords, FollowWords, PersonWords, ServeWords, Words};
 use base::Refusal;
 use cli_output::Fault;

@@ -7,14 +7,14 @@ ghost use Rattle.cli_audit.specs.Faults.{IsUnopenedRefusal};
 
 use crate::fault::{fault_row, row_in_memory};
 use crate::writing::write_last;
-use cli_output::{Buffered, Fault, open_file};
-use store_audit::{Audited, audit};
 use base::{Guid, Refusal};
+use cli_output::{Buffered, Fault, open_file};
 use desk_exports::Export;
-use store_minutes::LineWatch;
 use std::alloc::Global;
 use std::io::{BufRead, BufReader, Read};
 use std::rt::Files;
+use store_audit::{Audited, audit};
+use store_minutes::LineWatch;
 
 /// Follows the minutes of a reader, and writes what an audit writes of them.
 fn audit_reader<R: BufRead, W: Buffered>(

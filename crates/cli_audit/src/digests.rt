@@ -13,8 +13,8 @@ use crate::hashing::Hashing;
 use crate::summary::Summary;
 use base::{Digest, Refusal};
 use desk_exports::Export;
-use store_desk::Desk;
 use sqlite::Alter;
+use store_desk::Desk;
 
 /// The SHA-256 of an export of the desk, which doesn't change. The bytes are hashed as the desk
 /// writes them: takes memory for one row.
@@ -41,7 +41,10 @@ fn digest_of<S: Alter + Drop>(desk: &mut Desk<S>, what: Export) -> Result<Digest
 /// memory for one row.
 ///
 /// `NoMemory`, `Store`, `Reopen`: as for `digest_of`.
-pub(crate) fn summary_of<S: Alter + Drop>(desk: &mut Desk<S>, calls: u64) -> Result<Summary, Refusal>
+pub(crate) fn summary_of<S: Alter + Drop>(
+    desk: &mut Desk<S>,
+    calls: u64,
+) -> Result<Summary, Refusal>
     ensures exact { HasCleanDisk (state S.Store desk.new.conn) → IfOk result (λ told.
         ForEachShown S.Store desk.old (λ owner cs. length cs ≡ calls
         → told ≡ told_of owner cs)) }

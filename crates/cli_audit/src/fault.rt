@@ -6,9 +6,9 @@ ghost use Rattle.base.specs.declared.refusal.Refusal.TheVariants as refusals;
 ghost use Rattle.cli_output.specs.Faults.{IsRow, row_of};
 ghost use Rattle.cli_audit.specs.Faults.{IsAuditRefusal, of_audit};
 
+use base::Refusal;
 use cli_output::Fault;
 use store_audit::in_memory;
-use base::Refusal;
 use store_minutes::AuditFault;
 
 /// The row for minutes that aren't those of a desk, or aren't followed.

@@ -12,7 +12,7 @@ mod summary;
 mod writing;
 
 pub use auditing::{audit_file, audit_input};
-pub use store_minutes::LineWatch;
 pub use fault::fault_row;
 pub use running::run_audit;
+pub use store_minutes::LineWatch;
 pub use writing::say_told;

@@ -1,8 +1,8 @@
 //! The subcommand `audit`, as it runs: what it prints goes through a buffer to the standard output.
 //! It has no clauses: the checks run it.
 use crate::{LineWatch, audit_file, audit_input};
-use cli_output::{Buffered, Ending, Fault, WorkOutcome};
 use base::{Guid, Refusal};
+use cli_output::{Buffered, Ending, Fault, WorkOutcome};
 use desk_exports::Export;
 use std::io::BufWriter;
 

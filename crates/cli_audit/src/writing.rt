@@ -17,8 +17,8 @@ use crate::summary::{Summary, put_told};
 use cli_commands::write_export;
 use cli_output::{Buffered, Fault};
 use desk_exports::Export;
-use store_desk::Desk;
 use sqlite::Alter;
+use store_desk::Desk;
 
 /// Writes the lines of an audit, and flushes the writer.
 fn say<W: Buffered>(told: &Summary, writer: &mut W) -> Result<(), Fault>
@@ -34,9 +34,9 @@ fn say<W: Buffered>(told: &Summary, writer: &mut W) -> Result<(), Fault>
     Ok(())
 }
 
-/// Writes the lines of an audit of a desk of so many calls, and flushes the writer. The desk doesn't
-/// change. After `Write` the writer holds a prefix of the lines; after any other fault nothing is
-/// written.
+/// Writes the lines of an audit of a desk of so many calls, and flushes the writer. The desk
+/// doesn't change. After `Write` the writer holds a prefix of the lines; after any other fault
+/// nothing is written.
 pub fn say_told<S: Alter + Drop, W: Buffered>(
     desk: &mut Desk<S>,
     calls: u64,

@@ -15,9 +15,9 @@ ghost use Rattle.cli_commands.specs.Works.{Foretells, RefusesImpact, foretold_li
 
 use cli_output::{Buffered, Fault, WorkOutcome, print_impact};
 use desk_history::ShownImpact;
-use store_desk::Desk;
 use desk_types::{Caller, ProposalNumber};
 use sqlite::Alter;
+use store_desk::Desk;
 
 /// True if the impact has an image that is allowed now.
 fn bars_allowed(impact: &ShownImpact) -> bool

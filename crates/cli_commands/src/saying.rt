@@ -6,8 +6,8 @@ ghost use Rattle.cli_output.specs.Faults.{row_of};
 ghost use Rattle.cli_output.specs.VerdictLines.{verdict_line};
 ghost use Rattle.cli_commands.specs.Works.{outcome_of, reply_line};
 
-use cli_output::{Buffered, Fault, WorkOutcome, print_verdict};
 use base::{Refusal, put_each};
+use cli_output::{Buffered, Fault, WorkOutcome, print_verdict};
 use desk_history::Verdict;
 use desk_types::{Facts, Reply, reply_text};
 use std::alloc::Global;

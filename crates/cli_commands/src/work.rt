@@ -21,10 +21,10 @@ ghost use Rattle.cli_commands.specs.Works.{MayHaveAnswered, answer_line, outcome
 use crate::saying::{say_reply, say_verdict};
 use cli_output::{Buffered, Fault, WorkOutcome};
 use desk_exports::Export;
-use store_desk::Desk;
 use desk_types::{Caller, Command, Facts, Key, Person};
 use sqlite::Alter;
 use std::alloc::Global;
+use store_desk::Desk;
 
 /// Adds the person by a call of the console, and writes the reply's text and LF. After `Write` the
 /// writer holds a prefix of this line; after any other fault it is unchanged. After `Write`,

@@ -9,13 +9,13 @@ ghost use Rattle.cli_opening.specs.Faults.{IsOfOpening, IsOpeningRefusal};
 ghost use Rattle.cli_opening.specs.Works.{AtADesk, IsUnopened};
 
 use cli_commands::foretell;
-use cli_output::{Buffered, Ending};
 use cli_opening::{CacheSize, Work, Worked, on_desk};
-use store_desk::Desk;
+use cli_output::{Buffered, Ending};
 use desk_types::ProposalNumber;
 use sqlite::{Alter, FileFrom, Start};
 use sqlite_disk::Disk;
 use std::marker::PhantomData;
+use store_desk::Desk;
 
 /// Writes the impact of a proposal.
 #[derive(Drop)]

@@ -1,9 +1,9 @@
 //! The subcommands at a desk's file, as they run: what they print goes through a buffer to the
 //! standard output. They have no clauses: the checks run them.
 use crate::{add_person, export_from, foretell_from, judge_image};
-use cli_output::Ending;
-use cli_opening::make_desk;
 use base::{Guid, Refusal};
+use cli_opening::make_desk;
+use cli_output::Ending;
 use desk_exports::Export;
 use desk_types::{Key, Person, ProposalNumber};
 use sqlite::Unknown;

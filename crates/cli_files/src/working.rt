@@ -1,7 +1,6 @@
 //! The work of each subcommand on the desk in a file. Faults are found in one order: the file, the
 //! desk in it, another file, the command.
-ghost use Rattle.std.specs.Prelude.{◌≡◌, ◌≢◌, ◌⊎◌, ℕ, List, None, Err};
-ghost use Rattle.std.specs.Prelude.{IfErr, IfOk, IfSome, OnOk};
+ghost use Rattle.std.specs.Prelude.{◌≡◌, ◌≢◌, ◌⊎◌, ℕ, List, None, Err, IfErr, IfOk, IfSome, OnOk};
 ghost use Rattle.std.specs.Io.KnownBytes.{Keeps};
 ghost use Rattle.sqlite.specs.Held.{state};
 ghost use Rattle.sqlite.specs.State.{HasCleanDisk};
@@ -20,11 +19,10 @@ ghost use Rattle.cli_commands.specs.Faults.{IsAddingRefusal, IsWritingRefusal};
 ghost use Rattle.cli_output.specs.declared.ending.WorkOutcome.TheVariants.{Done};
 
 use cli_commands::{add, judge, write_export};
-use cli_output::{Buffered, Ending, Fault, WorkOutcome, read_image};
 use cli_opening::{CacheSize, Work, Worked, on_desk};
+use cli_output::{Buffered, Ending, Fault, WorkOutcome, read_image};
 use desk_exports::Export;
 use desk_inputs::facts;
-use store_desk::Desk;
 use desk_types::{Facts, Key, Person};
 use pe_image::Pieces;
 use sqlite::{Alter, FileFrom, Start};
@@ -32,6 +30,7 @@ use sqlite_disk::Disk;
 use std::alloc::Global;
 use std::marker::PhantomData;
 use std::rt::Files;
+use store_desk::Desk;
 
 /// Adds a person, and writes the reply.
 #[derive(Drop)]

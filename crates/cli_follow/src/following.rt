@@ -10,16 +10,16 @@ ghost use Rattle.cli_follow.specs.Faults.{IsFollowRow, IsOfFinding, IsRunRefusal
 ghost use Rattle.cli_follow.specs.Runs.{AtFoundOrMade, Follows, ForEachStart, IsUnfound, Runs};
 ghost use Rattle.cli_follow.specs.Runs.{RunsOn, Tells};
 
-use cli_audit::{LineWatch, fault_row, say_told};
-use cli_output::{Buffered, Fault, WorkOutcome};
-use cli_opening::{Ended, Left, Worked, close_after, open_or_make};
 use base::{Guid, Refusal};
-use store_follow::{Followed, follow, has_owner};
-use store_desk::Desk;
+use cli_audit::{LineWatch, fault_row, say_told};
+use cli_opening::{Ended, Left, Worked, close_after, open_or_make};
+use cli_output::{Buffered, Fault, WorkOutcome};
 use sqlite::{Alter, Connection, FileFrom, FileStore, Start};
 use sqlite_disk::Disk;
 use std::alloc::Global;
 use std::io::{BufRead, BufReader, Read};
+use store_desk::Desk;
+use store_follow::{Followed, follow, has_owner};
 
 /// Writes what is printed of a desk after a run, and returns the desk.
 fn tell<S: Alter + Drop, W: Buffered>(mut desk: Desk<S>, calls: u64, writer: &mut W) -> Worked<S>
@@ -77,7 +77,8 @@ fn follow_and_tell<S: Alter + Drop, R: BufRead, W: Buffered>(
     }
 }
 
-/// The same over files, and closes the desk. One that was lost isn't closed: its connection is left.
+/// The same over files, and closes the desk. One that was lost isn't closed: its connection is
+/// left.
 fn follow_and_close<D: Disk + Drop, R: BufRead, W: Buffered>(
     alloc: Global,
     desk: Desk<FileStore<D>>,
@@ -101,7 +102,8 @@ fn follow_and_close<D: Disk + Drop, R: BufRead, W: Buffered>(
     }
 }
 
-/// The same, if the desk has this owner. If it has another, it is closed, and the reader isn't asked.
+/// The same, if the desk has this owner. If it has another, it is closed, and the reader isn't
+/// asked.
 fn follow_on_desk<D: Disk + Drop, R: BufRead, W: Buffered>(
     alloc: Global,
     desk: Desk<FileStore<D>>,
@@ -126,9 +128,9 @@ fn follow_on_desk<D: Disk + Drop, R: BufRead, W: Buffered>(
     }
 }
 
-/// Follows the minutes of an input on the desk in a file, which is made if it is missing, and prints
-/// the lines of an audit of the desk. What is left of the desk's files is returned. Takes memory for
-/// one line, and the store's.
+/// Follows the minutes of an input on the desk in a file, which is made if it is missing, and
+/// prints the lines of an audit of the desk. What is left of the desk's files is returned. Takes
+/// memory for one line, and the store's.
 ///
 /// The faults of the desk's file come first. File, NotADesk, Version: no desk is found in it or
 /// made. Owner: the desk has another. Minute: the place is the first line that isn't that of the

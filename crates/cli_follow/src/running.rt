@@ -1,9 +1,9 @@
-//! The subcommand `follow`, as it runs: what it prints goes through a buffer to the standard output.
-//! It has no clauses.
+//! The subcommand `follow`, as it runs: what it prints goes through a buffer to the standard
+//! output. It has no clauses.
 use crate::follow_input;
+use base::{Guid, Refusal};
 use cli_audit::LineWatch;
 use cli_output::{Buffered, Ending, open_file};
-use base::{Guid, Refusal};
 use sqlite::Unknown;
 use std::io::BufWriter;
 

@@ -3,8 +3,8 @@
 //! statuses. A refusal has its number and name of docs/REFUSALS.md. checks/help.sh runs the
 //! examples and compares these texts with that table.
 
-/// The program's version, the newest of CHANGELOG.md, as checks/help.sh compares. The kit that proved
-/// a program is in the record beside it.
+/// The program's version, the newest of CHANGELOG.md, as checks/help.sh compares. The kit that
+/// proved a program is in the record beside it.
 pub const VERSION: &str = "0.2.0";
 
 /// Each row begins the subcommand's own help.

@@ -7,11 +7,11 @@ ghost use Rattle.cli_opening.specs.Leaving.{IsLeft, IsOfBroken, ending_of};
 
 use crate::ended::Ended;
 use crate::left::Left;
-use cli_output::{Fault, WorkOutcome};
 use base::Refusal;
-use store_desk::Desk;
+use cli_output::{Fault, WorkOutcome};
 use sqlite::{FileStore, Files};
 use sqlite_disk::Disk;
+use store_desk::Desk;
 
 /// Closes a desk's file: the contents of its log are copied into it. A refusal returns its store:
 /// both files together are the desk then.

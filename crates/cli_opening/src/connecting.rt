@@ -93,8 +93,9 @@ fn refusal_of(error: &Error) -> Refusal
 }
 
 /// Opens the database in the file at `path`, or creates it; its log is copied into it first.
-/// `start` names what the two files hold once they are opened and synced, and how a stop is read; no
-/// code can read it. It reads and checks the whole file, and takes memory for the pages of `room`.
+/// `start` names what the two files hold once they are opened and synced, and how a stop is read;
+/// no code can read it. It reads and checks the whole file, and takes memory for the pages of
+/// `room`.
 ///
 /// `File`: the file can't be opened or created, isn't a database, or is in use; or the system gives
 /// no random number. `NoMemory`: memory was refused.

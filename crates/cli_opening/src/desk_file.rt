@@ -12,7 +12,6 @@ use crate::connecting::{CacheSize, connect};
 use crate::last_commit::last_commit_is_shown;
 use crate::left::Left;
 use base::{Guid, Refusal};
-use store_desk::Desk;
 use sqlite::{Alter, Connection, FileFrom, FileStore, Start};
 use sqlite_disk::Disk;
 use sqlite_schema::schema::Schema;
@@ -20,6 +19,7 @@ use std::alloc::Global;
 use std::fs::OpenOptions;
 use std::os::unix::fs::OpenOptionsExt;
 use std::{fs, io};
+use store_desk::Desk;
 use store_sql::stop_leaves_what_is_shown;
 
 /// The mode of a desk's file: its user alone may read and write it.
@@ -94,8 +94,8 @@ fn make_there<S: Start>(
     }
 }
 
-/// Makes a desk in a file. One that doesn't exist is created, for its user alone, and so is its log.
-/// A refusal returns what is left of the file.
+/// Makes a desk in a file. One that doesn't exist is created, for its user alone, and so is its
+/// log. A refusal returns what is left of the file.
 ///
 /// `File`, `NoMemory`: as for `connect`. Then as for `Desk::create`: `Exists`: a table, an index or
 /// a view has a name of the desk's tables. `NoMemory`: memory was refused. `Store`: the store

@@ -5,8 +5,8 @@ ghost use Rattle.cli_output.specs.Faults.{row_of};
 ghost use Rattle.cli_opening.specs.Leaving.{ending_of};
 
 use crate::left::Left;
-use cli_output::{Ending, Fault, WorkOutcome};
 use base::Refusal;
+use cli_output::{Ending, Fault, WorkOutcome};
 use sqlite_disk::Disk;
 
 /// The end of a subcommand over a desk's file, with what is left of its files.

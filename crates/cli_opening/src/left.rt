@@ -1,5 +1,5 @@
-//! What is left of a desk's files at the end of a subcommand. Whoever holds it can only drop it: its
-//! parts are private to this module, and no function takes them out.
+//! What is left of a desk's files at the end of a subcommand. Whoever holds it can only drop it:
+//! its parts are private to this module, and no function takes them out.
 ghost use Rattle.std.specs.Prelude.{◌≡◌};
 
 use sqlite::{Connection, FileStore, Files};

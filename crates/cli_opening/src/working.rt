@@ -1,5 +1,5 @@
-//! The work of a subcommand on the desk in a file. A `Work` is written for any store, since the types
-//! of the system's files are costly to prove with.
+//! The work of a subcommand on the desk in a file. A `Work` is written for any store, since the
+//! types of the system's files are costly to prove with.
 ghost use Rattle.std.specs.Prelude.{◌≡◌, ◌⊎◌, Result, None, IfErr, IfOk, IfSome, OnErr, OnOk};
 ghost use Rattle.sqlite.specs.Files.{over_files};
 ghost use Rattle.sqlite.specs.Store.{Ghosts};
@@ -18,11 +18,11 @@ use crate::closing::close_after;
 use crate::connecting::CacheSize;
 use crate::desk_file::{make, open};
 use crate::ended::Ended;
-use cli_output::{Ending, Fault, WorkOutcome};
 use base::Guid;
-use store_desk::Desk;
+use cli_output::{Ending, Fault, WorkOutcome};
 use sqlite::{Alter, FileFrom, FileStore, Start};
 use sqlite_disk::Disk;
+use store_desk::Desk;
 
 /// A desk, and the result of a subcommand's work on it.
 pub struct Worked<S: Alter> {

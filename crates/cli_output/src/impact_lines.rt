@@ -7,7 +7,7 @@ ghost use Rattle.desk_types.specs.Words.{state_text};
 ghost use Rattle.cli_output.specs.ImpactLines as spec;
 
 use base::{WriteFailed, put, put_each};
-use desk_history::{BarredImage, WhichFile, Rule, ShownImpact};
+use desk_history::{BarredImage, Rule, ShownImpact, WhichFile};
 use desk_types::{State, Title};
 use itoa::Buffer;
 use sbat::{Component, Generation};
@@ -141,9 +141,10 @@ fn put_dbx<W: Write>(length: u64, writer: &mut W) -> Result<(), WriteFailed>
 }
 
 /// Writes an impact: a line for each image that a Confirm would bar, in the order of the calls that
-/// brought them, and `dbx N`, the length of dbx in bytes after it. The columns of an image, separated
-/// by tabs: its request, `submitted` or `returned`, the request's state, the submitter, `allowed` or
-/// `refused` now, the rule (`dbx-digest`, `dbx-certificate`, or `sbat NAME HAS NEEDS`), the title.
+/// brought them, and `dbx N`, the length of dbx in bytes after it. The columns of an image,
+/// separated by tabs: its request, `submitted` or `returned`, the request's state, the submitter,
+/// `allowed` or `refused` now, the rule (`dbx-digest`, `dbx-certificate`, or `sbat NAME HAS
+/// NEEDS`), the title.
 pub fn print_impact<W: Write>(impact: &ShownImpact, writer: &mut W) -> Result<(), WriteFailed>
     ensures ok { OnOk result (Appends (W.contents writer.old) (W.contents writer.new)
         (spec.impact_lines impact.now)) }

@@ -28,7 +28,7 @@ pub use form_laws::{
     all_rows_stand_once, answered_calls_stand, callers_are_told, level_has_no_sbat,
     lives_keep_what_was_answered, minutes_are_readable, minutes_differ, series_leave_histories,
 };
-pub use impact::{BarredImage, WhichFile, Rule, ShownImpact};
+pub use impact::{BarredImage, Rule, ShownImpact, WhichFile};
 pub use impact_laws::{
     confirms_are_foretold, each_rule_bars, entries_bar_alone, images_are_all, images_have_requests,
     impacts_come_true, impacts_last, listed_is_allowed,

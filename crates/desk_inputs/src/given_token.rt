@@ -7,7 +7,8 @@ use base::{Digest, InputFault};
 use std::alloc::Global;
 use std::io::Read;
 
-/// The most bytes that are read before a space or an LF: the digits of a digest, a CR, and one more.
+/// The most bytes that are read before a space or an LF: the digits of a digest, a CR, and one
+/// more.
 const MOST_READ: usize = 66;
 
 /// Reads the first line of an input up to its first space, one byte at a time, and no byte after

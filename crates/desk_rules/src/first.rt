@@ -12,9 +12,9 @@ use desk_types::{Caller, Command, Key};
 use std::alloc::Global;
 
 /// The answer to a call by the first rules, and the rows that it writes, from the rows of the view:
-/// what a command names to be revoked or raised is put into force at once. The refusals are those of
-/// `decide`, in its order. `NoMemory` may come at any time. Takes memory for the rows that it writes,
-/// and for the command's canonical text.
+/// what a command names to be revoked or raised is put into force at once. The refusals are those
+/// of `decide`, in its order. `NoMemory` may come at any time. Takes memory for the rows that it
+/// writes, and for the command's canonical text.
 pub fn decide_first(
     alloc: Global,
     view: &View,

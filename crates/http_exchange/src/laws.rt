@@ -13,7 +13,8 @@ pub fn one_thing_is_asked()
 
 /// Bytes after a whole request don't change its call or its refusal.
 pub fn what_follows_changes_nothing()
-    ensures { (cs : History) (b : List ℕ) (h : RequestHead) (rest more : List ℕ) (due : CallOrRefusal)
+    ensures { (cs : History) (b : List ℕ) (h : RequestHead) (rest more : List ℕ)
+        (due : CallOrRefusal)
         → HasRequest b h rest → Asks cs b due → Asks cs (b ++ more) due }
 {}
 

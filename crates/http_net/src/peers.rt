@@ -1,6 +1,5 @@
 //! Peers that connect, one after another.
-ghost use Rattle.std.specs.Prelude.{◌≡◌, IfNone, IfSome};
-ghost use Rattle.std.specs.Prelude.{Result};
+ghost use Rattle.std.specs.Prelude.{◌≡◌, IfNone, IfSome, Result};
 ghost use Rattle.http_exchange.specs.Serving.{FailsFirst};
 ghost use Rattle.http_exchange.specs.declared.served.HttpFault.{HttpFault as Fault};
 ghost use Rattle.http_exchange.specs.declared.served.Served.{Served as Came};

@@ -46,7 +46,8 @@ pub(crate) fn from_part(target: &[u8]) -> &[u8]
     number_part(after_slash(target))
 }
 
-/// The number of a minute, or of the first entry of a part of a list, that 1 to 7 decimal digits without a leading zero spell.
+/// The number of a minute, or of the first entry of a part of a list, that 1 to 7 decimal digits
+/// without a leading zero spell.
 pub(crate) fn minute_number(text: &[u8]) -> Option<u64>
     ensures { result ≡ spec.minute_number text.now }
 {

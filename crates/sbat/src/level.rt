@@ -83,8 +83,8 @@ impl Level {
     /// change.
     pub fn raise(&mut self, component: &Component) -> Result<(), AllocError>
         requires other { bytes_eq component.now.name sbat ≡ false }
-        ensures ok { OnOk result
-            (self.new ≡ record self.old { generations = raised self.old.generations component.now }) }
+        ensures ok { OnOk result (self.new
+            ≡ record self.old { generations = raised self.old.generations component.now }) }
         ensures err { OnErr result (self.new ≡ self.old) }
     {
         let name = component.name.clone()?.into_string();

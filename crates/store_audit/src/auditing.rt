@@ -10,12 +10,12 @@ ghost use Rattle.store_audit.specs.Rules.{HasBegun, HasFollowedFirst, HasTurned}
 
 use crate::beginning::{Step, follow_first};
 use base::Refusal;
-use store_first_rules::FirstDesk;
-use store_minutes::{AuditFault, LineWatch, at_line, follow, follow_rest};
-use store_desk::Desk;
 use sqlite::Alter;
 use std::alloc::Global;
 use std::io::BufRead;
+use store_desk::Desk;
+use store_first_rules::FirstDesk;
+use store_minutes::{AuditFault, LineWatch, at_line, follow, follow_rest};
 
 /// Where the lines by the first rules end.
 #[derive(Clone, Copy, Debug, PartialEq, Eq)]
@@ -48,7 +48,8 @@ pub(crate) fn follow_beginning<S: Alter + Drop, R: BufRead>(
         → fault ≡ AuditFault.Line n
         → (s : Start) → HasFollowedFirst S.Store desk.old s before (R.remaining reader.old)
         → IsWrongAfter (ShowsFirstDesk S.Store desk.new s.owner) s n) }
-    ensures stopped { (s : Start) → HasFollowedFirst S.Store desk.old s before (R.remaining reader.old)
+    ensures stopped { (s : Start)
+        → HasFollowedFirst S.Store desk.old s before (R.remaining reader.old)
         → LeavesFollowed (state S.Store desk.new.conn) s }
     ensures clean { HasCleanDisk (state S.Store desk.new.conn)
         → HasCleanDisk (state S.Store desk.old.conn) }
@@ -94,7 +95,8 @@ pub(crate) fn follow_on<S: Alter + Drop, R: BufRead>(
         → fault ≡ AuditFault.Line n
         → (s : Start) → HasTurned S.Store desk.old s end (R.remaining reader.old) line.old.items
         → IsWrongAfter (ShowsDesk S.Store desk.new s.owner) s n) }
-    ensures stopped { (s : Start) → HasTurned S.Store desk.old s end (R.remaining reader.old) line.old.items
+    ensures stopped { (s : Start)
+        → HasTurned S.Store desk.old s end (R.remaining reader.old) line.old.items
         → LeavesFollowed (state S.Store desk.new.conn) s }
     ensures clean { HasCleanDisk (state S.Store desk.new.conn)
         → HasCleanDisk (state S.Store desk.old.conn) }

@@ -8,11 +8,11 @@ ghost use Rattle.store_first_rules.specs.Desks.{KeepsFirst};
 ghost use Rattle.store_audit.specs.Following.{EndsBeforeBoth, GoesOnByFirst, MayStopOnFirst};
 ghost use Rattle.store_audit.specs.Following.{TellsSecond};
 
-use store_first_rules::FirstDesk;
-use store_minutes::{FollowFault, read_line};
 use desk_types::Reply;
 use sqlite::Alter;
 use std::alloc::Global;
+use store_first_rules::FirstDesk;
+use store_minutes::{FollowFault, read_line};
 
 /// What a line is where the first rules hold.
 #[derive(Clone, Copy, Debug, PartialEq, Eq)]

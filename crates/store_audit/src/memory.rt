@@ -13,12 +13,12 @@ ghost use Rattle.store_memory.specs.Disks.{over_memory};
 
 use crate::turning::{Followed, follow_from_first};
 use base::{Guid, Refusal};
-use store_first_rules::FirstDesk;
-use store_minutes::{AuditFault, LineWatch};
-use store_desk::Desk;
-use store_memory::{MemoryStore, connect};
 use std::alloc::Global;
 use std::io::BufRead;
+use store_desk::Desk;
+use store_first_rules::FirstDesk;
+use store_memory::{MemoryStore, connect};
+use store_minutes::{AuditFault, LineWatch};
 
 /// Minutes that were followed.
 #[derive(Drop)]
@@ -72,11 +72,11 @@ fn fault_in_memory(fault: AuditFault) -> AuditFault
     }
 }
 
-/// Follows minutes by the rules on a new desk in memory, with this owner of each exported entry:
-/// they are those of a history that a desk may have, and the desk shows it. Each line is followed
-/// by the first rules until one with a reply that only the second give, and by the second from that
-/// line on. An interrupted read is a fault and isn't retried. Takes memory for the desk and for one
-/// line.
+/// Follows minutes by the rules on a new desk in memory, with this owner of each exported entry.
+/// On Ok the minutes are those of a possible history, and the new desk has it. Each line is
+/// followed by the first rules until one with a reply that only the second give, and by the second
+/// from that line on. An interrupted read is a fault and isn't retried. Takes memory for the desk
+/// and for one line.
 ///
 /// `Line`: the first line that isn't what the rules give; a last line without a line break is such
 /// a line. `Device`: memory was refused (`NoMemory`), or a read failed (`Read`).

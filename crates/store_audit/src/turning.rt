@@ -13,12 +13,12 @@ ghost use Rattle.store_audit.specs.Rules.{HasBegun, HasFollowedFirst};
 
 use crate::auditing::{FirstEnd, follow_beginning, follow_on};
 use base::Refusal;
-use store_first_rules::FirstDesk;
-use store_minutes::{AuditFault, LineWatch};
-use store_desk::Desk;
 use sqlite::{Alter, Connection};
 use std::alloc::Global;
 use std::io::BufRead;
+use store_desk::Desk;
+use store_first_rules::FirstDesk;
+use store_minutes::{AuditFault, LineWatch};
 
 /// A desk that has followed minutes.
 #[derive(Drop)]
@@ -102,10 +102,10 @@ fn turned_at<S: Alter + Drop>(
     }
 }
 
-/// Follows the lines of minutes that are left after so many, on a desk of so many calls that were all
-/// accepted by the first rules: by these, up to a line that only the second rules give, and by the
-/// second from that line on. A refusal returns the connection. Takes memory for one line, and the
-/// store's.
+/// Follows the lines of minutes that are left after so many, on a desk of so many calls that were
+/// all accepted by the first rules: by these, up to a line that only the second rules give, and by
+/// the second from that line on. A refusal returns the connection. Takes memory for one line, and
+/// the store's.
 ///
 /// `Line`, in the result: the first line that isn't what the rules give; a last line without a line
 /// break is such a line. `Device` there, or a refusal: memory was refused (`NoMemory`), the reader

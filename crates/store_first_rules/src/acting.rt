@@ -17,8 +17,8 @@ use desk_rules::CallRef;
 use desk_types::Reply;
 use sqlite::{Alter, Connection, Transaction};
 use std::alloc::Global;
-use store_sql::StoreFault;
 use store_decision_rows::Remembered;
+use store_sql::StoreFault;
 
 /// The call inside its transaction: a call that the first rules accept with this reply has its rows
 /// written, and counts as one of theirs; what the desk remembers after it. `None`: it isn't

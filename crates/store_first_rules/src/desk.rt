@@ -15,13 +15,13 @@ use crate::acting::run;
 use crate::past::remembered_if_first;
 use base::Refusal;
 use desk_rules::CallRef;
-use store_desk::Desk;
 use desk_types::{Call, Reply, call_is_formed};
 use sbat::Stamp;
 use sqlite::{Alter, Connection};
 use std::alloc::Global;
-use store_sql::stop_leaves_what_is_shown;
 use store_decision_rows::{KnownSizes, Remembered};
+use store_desk::Desk;
+use store_sql::stop_leaves_what_is_shown;
 
 /// A desk whose calls are accepted by the first rules, in a store. It has the connection, and
 /// remembers the level's stamp and the size of each counted table between calls.
@@ -35,7 +35,7 @@ pub struct FirstDesk<S: Alter> {
 /// A desk that goes on by the rules of its calls.
 #[derive(Drop)]
 pub enum Resumed<S: Alter> {
-    /// By the first, by which all its calls were accepted.
+    /// Still by one officer's rules; so were all calls so far.
     First(FirstDesk<S>),
     /// By the second, by which at least one of its calls was accepted.
     Second(Desk<S>),
@@ -94,8 +94,8 @@ impl<S: Alter + Drop> FirstDesk<S> {
     }
 
     /// The same desk, which goes on by the first rules if all its calls were accepted by them, and
-    /// by the second otherwise. Nothing is committed; a refusal returns the connection. Each counted
-    /// table is counted. Takes memory.
+    /// by the second otherwise. Nothing is committed; a refusal returns the connection. Each
+    /// counted table is counted. Takes memory.
     ///
     /// `NoMemory`: memory was refused. `Store`: the store failed, or isn't as a desk left it.
     pub fn resume(alloc: Global, desk: Desk<S>) -> Result<Resumed<S>, (Refusal, Connection<S>)>

@@ -17,8 +17,8 @@ use sbat::Stamp;
 use sqlite::types::ValueRef;
 use sqlite::{Alter, Connection, Row, Transaction};
 use store_counts::counts;
-use store_reads::{Counted, ReadFault, count};
 use store_decision_rows::{KnownSizes, Remembered};
+use store_reads::{Counted, ReadFault, count};
 
 /// How many calls were accepted by the first rules: every row of the table, which has one.
 pub(crate) const SELECT_MIGRATED: &str = "SELECT id, calls FROM migrated ORDER BY id";
@@ -142,7 +142,9 @@ fn read_past<S: Alter>(tx: &mut Transaction<'_, S>) -> Result<Option<Remembered>
 }
 
 /// The same, in a transaction that is rolled back. Nothing is committed.
-pub(crate) fn remembered_if_first<S: Alter>(conn: &mut Connection<S>) -> Result<Option<Remembered>, Refusal>
+pub(crate) fn remembered_if_first<S: Alter>(
+    conn: &mut Connection<S>,
+) -> Result<Option<Remembered>, Refusal>
     ensures told { HasCleanDisk (state S.Store conn.new) → IfOk result
         (TellsPast (state S.Store conn.old)) }
     ensures same { HasCleanDisk (state S.Store conn.new) → (owner : List ℕ) (cs : History)

@@ -6,8 +6,8 @@ mod living;
 mod restarting;
 mod running;
 
-pub use store_audit::Followed;
-pub use store_minutes::{AuditFault, LineWatch};
 pub use living::{openings_recover_runs, refused_runs_make_lives, runs_make_lives};
 pub use restarting::restart_after_run;
 pub use running::{follow, has_owner};
+pub use store_audit::Followed;
+pub use store_minutes::{AuditFault, LineWatch};

@@ -2,12 +2,13 @@
 ghost use Rattle.store_follow.specs.Living.{RecoversRuns, RunsBegin, RunsLiveOn, RunsMayStop};
 ghost use Rattle.store_follow.specs.Living.{WrongRunsLiveOn};
 
-use store_desk::Desk;
 use sqlite::{Alter, Connection};
+use store_desk::Desk;
 
-/// A run adds its lines to the series of the desk's lives, by the clauses of `follow`: each followed
-/// line is a call that was answered Ok with its reply. If the run followed all lines, or met a wrong
-/// one, the desk lives on; whatever its result, a stop leaves what these lives may leave.
+/// A run adds its lines to the series of the desk's lives, by the clauses of `follow`: each
+/// followed line is a call that was answered Ok with its reply. If the run followed all lines, or
+/// met a wrong one, the desk lives on; whatever its result, a stop leaves what these lives may
+/// leave.
 pub fn runs_make_lives<S: Alter>(old: &Desk<S>, new: &Desk<S>)
     ensures begin { RunsBegin S.Store old.now }
     ensures on { RunsLiveOn S.Store new.now }

@@ -11,10 +11,10 @@ ghost use Rattle.store_follow.specs.Restarting.{RunIsFoundAgain};
 ghost use Rattle.store_follow.specs.Runs.{LeavesRun};
 
 use base::Refusal;
-use store_desk::Desk;
 use sqlite::{Connection, FileStore, Files, Options};
 use sqlite_disk::{Crash, Disk};
 use std::alloc::Global;
+use store_desk::Desk;
 
 /// The files of a store after the machine stops: each has the contents that its disk leaves.
 fn files_after_crash<D: Crash + Drop>(conn: Connection<FileStore<D>>) -> Files<D>

@@ -9,14 +9,14 @@ ghost use Rattle.store_minutes.specs.Starts.{HasFollowedAfter, IsWrongAfter, Sta
 ghost use Rattle.store_minutes.specs.Comparing.{Begins, HasAll};
 ghost use Rattle.store_follow.specs.Runs.{HasRun, IsWrongLine, LeavesRun};
 
-use store_audit::{Followed, follow_from_first};
 use base::{Guid, Refusal};
-use store_first_rules::{FirstDesk, Resumed};
-use store_minutes::{AuditFault, Compared, LineWatch, compare, follow_rest};
-use store_desk::Desk;
 use sqlite::{Alter, Connection};
 use std::alloc::Global;
 use std::io::BufRead;
+use store_audit::{Followed, follow_from_first};
+use store_desk::Desk;
+use store_first_rules::{FirstDesk, Resumed};
+use store_minutes::{AuditFault, Compared, LineWatch, compare, follow_rest};
 
 /// Whether the desk has this owner.
 pub fn has_owner<S: Alter + Drop>(desk: &Desk<S>, owner: &Guid) -> bool
@@ -97,12 +97,12 @@ fn go_on<S: Alter + Drop, R: BufRead>(
 }
 
 /// Follows minutes on a desk whose own minutes are a beginning of them: each line after those is
-/// followed, in a commit of its own. If they are a beginning of the desk's own, nothing changes; the
-/// result is the number of its calls. A refusal returns the connection. Takes memory for one line,
-/// and the store's. `runs_make_lives` says what a run adds to the lives of the desk.
+/// followed, in a commit of its own. If they are a beginning of the desk's own, nothing changes;
+/// the result is the number of its calls. A refusal returns the connection. Takes memory for one
+/// line, and the store's. `runs_make_lives` says what a run adds to the lives of the desk.
 ///
-/// `Line`: the first line that isn't that of the desk, or what the rules give; a last line without a
-/// line break is such a line. `Device`, or without a desk: memory was refused (`NoMemory`), the
+/// `Line`: the first line that isn't that of the desk, or what the rules give; a last line without
+/// a line break is such a line. `Device`, or without a desk: memory was refused (`NoMemory`), the
 /// reader failed (`Read`), or the store failed (`Store`), or had failed before (`Reopen`).
 pub fn follow<S: Alter + Drop, R: BufRead>(
     alloc: Global,

@@ -1,5 +1,5 @@
 //! A pass over the calls, one at a time.
-ghost use Rattle.std.specs.Prelude.{◌≡◌, ⊤, IfErr, IfOk, OnOk};
+ghost use Rattle.std.specs.Prelude.{◌≡◌, ⊤, IfErr, IfOk, OnOk, Some};
 ghost use Rattle.sqlite.specs.Held.{state};
 ghost use Rattle.sqlite.specs.State.{HasCleanDisk};
 ghost use Rattle.store_reads.specs.Failures.{IsFailure};
@@ -8,7 +8,6 @@ ghost use Rattle.store_sql.specs.States.{Spares};
 ghost use Rattle.store_impacts.specs.Passing.{request_after};
 ghost use Rattle.store_impacts.specs.Steps.{SeesCall, with_image};
 ghost use Rattle.store_impacts.specs.Touching.{TouchesOf};
-ghost use Rattle.std.specs.Prelude.{Some};
 
 use crate::TouchedImage;
 use crate::passed::{BroughtImage, passed_in};

@@ -14,8 +14,8 @@ use store_reads::ReadFault;
 use store_shown::officer_of;
 
 /// Why the caller isn't shown impacts, or nothing if they are: officers are, and the console. An
-/// officer isn't looked up if that is `kept_person`, who must be one of the desk's people (`value`).
-/// Takes memory for the person.
+/// officer isn't looked up if that is `kept_person`, who must be one of the desk's people
+/// (`value`). Takes memory for the person.
 pub fn refusal_to<S: Alter>(
     alloc: Global,
     tx: &mut Transaction<'_, S>,

@@ -9,10 +9,10 @@ ghost use Rattle.store_minutes.specs.Following.{AcceptsNot, IsDue};
 
 use base::Refusal;
 use desk_rules::decide;
-use store_desk::Desk;
 use desk_types::{Call, Reply};
 use sqlite::Alter;
 use std::alloc::Global;
+use store_desk::Desk;
 
 /// The reply to a call, if it would be accepted and join the desk's history. `None`: it repeats a
 /// call, or the rules refuse it. Nothing changes. Takes memory.

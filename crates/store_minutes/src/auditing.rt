@@ -11,10 +11,10 @@ ghost use Rattle.store_minutes.specs.declared.lines.LineWatch.{LineWatch};
 use crate::following::{FollowFault, follow};
 use crate::lines::LineWatch;
 use base::Refusal;
-use store_desk::Desk;
 use sqlite::Alter;
 use std::alloc::Global;
 use std::io::BufRead;
+use store_desk::Desk;
 use thiserror::Error;
 
 /// Why minutes aren't those of a desk.
@@ -62,7 +62,8 @@ pub fn follow_rest<S: Alter + Drop, R: BufRead>(
         → fault ≡ AuditFault.Line n
         → (s : Start) → HasFollowedSecond S.Store desk.old s before (R.remaining reader.old)
         → IsWrongAfter (ShowsDesk S.Store desk.new s.owner) s n) }
-    ensures stopped { (s : Start) → HasFollowedSecond S.Store desk.old s before (R.remaining reader.old)
+    ensures stopped { (s : Start)
+        → HasFollowedSecond S.Store desk.old s before (R.remaining reader.old)
         → LeavesFollowed (state S.Store desk.new.conn) s }
     ensures clean { HasCleanDisk (state S.Store desk.new.conn)
         → HasCleanDisk (state S.Store desk.old.conn) }

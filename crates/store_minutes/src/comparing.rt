@@ -11,9 +11,9 @@ ghost use Rattle.store_minutes.specs.Comparing.{Begins, DiffersAt, HasAll, IsBeg
 use crate::auditing::AuditFault;
 use crate::lines::LineWatch;
 use base::Refusal;
-use store_desk::Desk;
 use sqlite::Alter;
 use std::io::BufRead;
+use store_desk::Desk;
 
 /// What the reader gave, where each line was that of the desk.
 #[derive(Clone, Copy, Debug, PartialEq, Eq)]

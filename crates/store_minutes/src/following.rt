@@ -13,10 +13,10 @@ ghost use Rattle.store_minutes.specs.Following.{MayStopNumbered, MayStopOnLine};
 use crate::applying::reply_due;
 use base::Refusal;
 use desk_minutes::{MinuteRead, is_same_reply, read_minute};
-use store_desk::Desk;
 use desk_types::{Reply, TextFault};
 use sqlite::Alter;
 use std::alloc::Global;
+use store_desk::Desk;
 
 /// Why a line isn't followed.
 #[derive(Clone, Copy, Debug, PartialEq, Eq)]

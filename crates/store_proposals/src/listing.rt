@@ -121,9 +121,9 @@ fn all_of<S: Alter>(
     Ok(all)
 }
 
-/// All proposals, by number, each with the counts of its items. Items are read of imports alone: any
-/// other proposal names one entry, of its kind. Takes memory for the heads, and for all items of one
-/// import at a time.
+/// All proposals, by number, each with the counts of its items. Items are read of imports alone:
+/// any other proposal names one entry, of its kind. Takes memory for the heads, and for all items
+/// of one import at a time.
 ///
 /// `Row`: their rows aren't those that the desk writes.
 pub fn proposals<S: Alter>(

@@ -34,8 +34,8 @@ fn picks_head(officer: Option<&PersonName>, head: &ProposalHead) -> bool
     name.as_str() != head.officer.as_str()
 }
 
-/// Adds the proposal of this number to the list, if it is chosen, and says whether it was. Its items
-/// are read only then, and only of an import.
+/// Adds the proposal of this number to the list, if it is chosen, and says whether it was. Its
+/// items are read only then, and only of an import.
 ///
 /// `Row`: no proposal has the number, or its rows aren't those that the desk writes.
 fn take_numbered<S: Alter>(
@@ -68,9 +68,9 @@ fn take_numbered<S: Alter>(
     Ok(true)
 }
 
-/// The proposals with a number above `passed` and up to `last`, by number, the first so many of them:
-/// all, or those that wait for the officer of this name. Each is read by its number, with the counts
-/// of its items. Takes memory for what is given, and for all items of one import at a time.
+/// The proposals with a number above `passed` and up to `last`, by number, the first so many of
+/// them: all, or those that wait for the officer of this name. Each is read by its number, with the
+/// counts of its items. Takes memory for what is given, and for all items of one import at a time.
 ///
 /// `Row`: a number has no proposal, or their rows aren't those that the desk writes.
 pub fn proposals_after<S: Alter>(

@@ -33,8 +33,8 @@ impl ColumnText {
     }
 }
 
-/// The columns of a call: its number from 1, the caller's name (`console` for the console), the key,
-/// the canonical text of the command, and the text of the reply.
+/// The columns of a call: its number from 1, the caller's name (`console` for the console), the
+/// key, the canonical text of the command, and the text of the reply.
 #[derive(Debug, Drop)]
 pub struct CallTexts {
     pub number: u64,

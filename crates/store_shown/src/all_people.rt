@@ -39,11 +39,11 @@ fn shown_people(alloc: Global, people: Vec<Person>) -> Result<Vec<ShownPerson>, 
 }
 
 /// All people, ascending by the bytes of their names, for the person of this name, who must be an
-/// officer. The person isn't looked up if that is `kept_person`, who must be one of the desk's people
-/// (`value`). Takes memory for the rows.
+/// officer. The person isn't looked up if that is `kept_person`, who must be one of the desk's
+/// people (`value`). Takes memory for the rows.
 ///
-/// `UnknownCaller`: nobody has the name. `NotYourRole`: the person isn't an officer, and no other is
-/// read.
+/// `UnknownCaller`: nobody has the name. `NotYourRole`: the person isn't an officer, and no other
+/// is read.
 pub fn people_for_officer<S: Alter>(
     alloc: Global,
     tx: &mut Transaction<'_, S>,

@@ -59,8 +59,8 @@ fn events_by(state: State, votes: &[VoteRow]) -> Result<u64, ReadFault>
     Ok(events)
 }
 
-/// What happened to the request of this number, if the person is shown it: its submission, its votes,
-/// and its end. Votes are read only then.
+/// What happened to the request of this number, if the person is shown it: its submission, its
+/// votes, and its end. Votes are read only then.
 ///
 /// `Row`: no request has the number. `Store`: more votes than a number counts.
 fn events_of<S: Alter>(
@@ -135,9 +135,10 @@ fn events_of_all<S: Alter>(
 }
 
 /// A number that changes whenever what the person of this name may see of requests or proposals
-/// changed: how many calls the desk accepted; for a submitter, how much happened to the own requests,
-/// of which each is read, and of others the row. The person isn't looked up if that is `kept_person`,
-/// who must be one of the desk's people (`value`). Takes memory for one request's votes at a time.
+/// changed: how many calls the desk accepted; for a submitter, how much happened to the own
+/// requests, of which each is read, and of others the row. The person isn't looked up if that is
+/// `kept_person`, who must be one of the desk's people (`value`). Takes memory for one request's
+/// votes at a time.
 ///
 /// `UnknownCaller`: nobody has the name.
 pub fn changes_of<S: Alter>(

@@ -24,8 +24,8 @@ use store_reads::{Counted, ReadFault, count, request_numbered};
 /// The most requests, proposals or lines of a part.
 pub(crate) const MOST_OF_PART: u64 = 1_000;
 
-/// Adds the request of this number to the list, if it is chosen, and says whether it was. Its votes,
-/// and what else it has, are read only where its row may be.
+/// Adds the request of this number to the list, if it is chosen, and says whether it was. Its
+/// votes, and what else it has, are read only where its row may be.
 ///
 /// `Row`: no request has the number.
 fn take_numbered<S: Alter, L: RequestList>(
@@ -103,9 +103,9 @@ pub(crate) fn passed_before(number: u64, last: u64) -> u64
 }
 
 /// The requests that the person of this name is shown, ascending by number: a submitter's own, and
-/// all for everybody else. They are read one at a time, by the numbers that requests are given: 1 and
-/// up, with no gap. The person isn't looked up if that is `kept_person`, who must be one of the desk's
-/// people (`value`). Takes memory for one request, and for the list.
+/// all for everybody else. They are read one at a time, by the numbers that requests are given: 1
+/// and up, with no gap. The person isn't looked up if that is `kept_person`, who must be one of the
+/// desk's people (`value`). Takes memory for one request, and for the list.
 ///
 /// `UnknownCaller`: nobody has the name.
 pub fn requests_of<S: Alter, L: RequestList + Drop>(

@@ -108,8 +108,8 @@ pub fn line_numbered<S: Alter>(
 
 /// The lines of the minutes from this number on, counted from 1, at most 1,000, for the person of
 /// this name, who must be an officer. Each call is read by its number, so that the cost is that of
-/// the lines that are given. The person isn't looked up if that is `kept_person`, who must be one of
-/// the desk's people (`value`). Takes memory for the lines, and for one call at a time.
+/// the lines that are given. The person isn't looked up if that is `kept_person`, who must be one
+/// of the desk's people (`value`). Takes memory for the lines, and for one call at a time.
 ///
 /// `UnknownCaller`: nobody has the name. `NotYourRole`: the person isn't an officer, and no call is
 /// read.

@@ -60,8 +60,9 @@ fn row_for(reader: &Person, row: Option<RequestRow>) -> Option<RequestRow>
     Some(row)
 }
 
-/// The request of this number, as the person of this name is shown it. The person isn't looked up if
-/// that is `kept_person`, who must be one of the desk's people (`value`). Takes memory for its rows.
+/// The request of this number, as the person of this name is shown it. The person isn't looked up
+/// if that is `kept_person`, who must be one of the desk's people (`value`). Takes memory for its
+/// rows.
 ///
 /// `UnknownCaller`: nobody has the name. `NoSuchRequest`: no request has the number, or it belongs
 /// to someone else and the person is a submitter; then none of its other rows is read.

@@ -65,9 +65,9 @@ fn proposals_for<S: Alter>(
 
 /// What waits for the person of this name, each ascending by number: for an officer the open
 /// proposals of others, and for everybody else requests, of which only the rows are read where they
-/// tell that a request doesn't wait. The person isn't looked up if that is `kept_person`, who must be
-/// one of the desk's people (`value`). Takes memory for one request or for all items of one import at
-/// a time, and for the lists.
+/// tell that a request doesn't wait. The person isn't looked up if that is `kept_person`, who must
+/// be one of the desk's people (`value`). Takes memory for one request or for all items of one
+/// import at a time, and for the lists.
 ///
 /// `UnknownCaller`: nobody has the name.
 pub fn waiting_of<S: Alter, L: RequestList + Drop>(

@@ -17,8 +17,8 @@ use store_proposals::stamps_are_above_none;
 use store_reads::ReadFault;
 
 /// The proposal of this number with all that it names, for the person of this name, who must be an
-/// officer. The person isn't looked up if that is `kept_person`, who must be one of the desk's people
-/// (`value`). Takes memory for its rows, twice for components.
+/// officer. The person isn't looked up if that is `kept_person`, who must be one of the desk's
+/// people (`value`). Takes memory for its rows, twice for components.
 ///
 /// `UnknownCaller`: nobody has the name. `NotYourRole`: the person isn't an officer, and no
 /// proposal is read. `NoSuchProposal`: no proposal has the number.

@@ -22,8 +22,8 @@ pub fn stop_leaves_what_is_shown<S: Alter>(conn: &Connection<S>)
     let _ = conn;
 }
 
-/// Where others may follow the tables of a layout, CREATE TABLE and CREATE INDEX leave a schema that
-/// fits, if no foreign key of the new table names one of the layout's as its parent.
+/// Where others may follow the tables of a layout, CREATE TABLE and CREATE INDEX leave a schema
+/// that fits, if no foreign key of the new table names one of the layout's as its parent.
 pub fn what_is_made_later_fits()
     ensures table { (layout : Layout) (schema : Schema) (t : Table) → IsTrue layout.leads
         → Fits layout schema → NamesNone layout.schema.tables t → Fits layout (created schema t) }

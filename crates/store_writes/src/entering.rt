@@ -22,7 +22,8 @@ use store_sql::{StoreFault, insert};
 /// Inserts the desk's own row into tables without rows: its stamp is that of shim's first level.
 fn put_own<S: Alter>(tx: &mut Transaction<'_, S>, owner: &Guid) -> Result<(), StoreFault>
     ensures same_reference { tx.new.conn.ghost_name ≡ tx.old.conn.ghost_name }
-    ensures value { MakesDesk S.Store tx.old.conn.now tx.new.conn.now result (unmigrated owner.now) }
+    ensures value { MakesDesk S.Store tx.old.conn.now tx.new.conn.now result
+        (unmigrated owner.now) }
     ensures puts { DoesInside S.Store tx.old.conn.now tx.new.conn.now result
         (λ _. Inserts INSERT_DESK.now (own_params owner.now)) }
     ensures inside { StaysInside S.Store tx.old.conn.now tx.new.conn.now result }

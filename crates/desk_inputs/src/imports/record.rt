@@ -7,8 +7,8 @@ ghost use Rattle.desk_inputs.specs.imports.FromCsv as spec;
 ghost use Rattle.desk_inputs.specs.imports.Gathering.{is_free};
 
 use crate::imports::item::Item;
-use csv::ByteRecord;
 use base::Digest;
+use csv::ByteRecord;
 use sbat::{Component, ComponentName, Generation, NameFault};
 use std::alloc::Global;
 

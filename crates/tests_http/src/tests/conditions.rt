@@ -1,10 +1,10 @@
-//! Commands with If-Match: the desk is asked for what they are about, and then given the command, or
-//! not.
+//! Commands with If-Match: the desk is asked for what they are about, and then given the command,
+//! or not.
 use super::serving::answers;
 use std::test::Fail;
 
-/// Requests, the desk's calls, and the responses: a tag that matches, another one, one where nothing
-/// is shown, one in a wrong form, and one at a route that takes none.
+/// Requests, the desk's calls, and the responses: a tag that matches, another one, one where
+/// nothing is shown, one in a wrong form, and one at a route that takes none.
 const CONDITIONS: &str =
     r#"POST /requests/6/review HTTP/1.1|Desk-Token: olga-token-000001|Desk-Key: k1|If-Match: "bbbbbbbbbbbbbbbbbbbbbbbbbbbbbbbbbbbbbbbbbbbbbbbbbbbbbbbbbbbbbbbb"|Content-Length: 28||{"note":"fine","vote":"yes"} => request olga olga k1 review 6 yes fine => HTTP/1.1 200 OK|Content-Type: application/json|Content-Length: 47|Connection: close||{"reply":"reviewed","request":6,"state":"open"}
 POST /requests/6/review HTTP/1.1|Desk-Token: olga-token-000001|Desk-Key: k1|If-Match: "aaaaaaaaaaaaaaaaaaaaaaaaaaaaaaaaaaaaaaaaaaaaaaaaaaaaaaaaaaaaaaaa"|Content-Length: 28||{"note":"fine","vote":"yes"} => request olga => HTTP/1.1 412 Precondition Failed|Content-Type: application/json|Content-Length: 32|Connection: close||{"name":"Mismatch","refused":49}

@@ -3,8 +3,8 @@ ghost use Rattle.std.specs.Prelude.{replicate};
 
 use super::image;
 use authenticode::sums;
-use cli_output::{Fault, print_ranges};
 use base::Refusal;
+use cli_output::{Fault, print_ranges};
 use desk_inputs::facts;
 use pe_image::{Bytes, LayoutFault, PIECE, ReadFailed, Source, gap, layout};
 use std::alloc::Global;

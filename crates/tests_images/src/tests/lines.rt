@@ -1,10 +1,10 @@
 //! The printed lines of facts, of lists and of a fault.
 use super::{Call, check, image, tell_lines};
+use base::{Guid, Refusal, WriteFailed};
 use cli_output::{
     Fault, MOST_BYTES, print_facts, print_fault, print_impact, print_list, print_verdict,
 };
-use base::{Guid, Refusal, WriteFailed};
-use desk_history::{BarredImage, Below, WhichFile, Rule, ShownImpact, Verdict};
+use desk_history::{BarredImage, Below, Rule, ShownImpact, Verdict, WhichFile};
 use desk_inputs::facts;
 use desk_types::{Counts, Facts, PersonName, RequestNumber, State, Title};
 use pe_image::Bytes;
@@ -281,7 +281,13 @@ fn component_rule(facts: &Facts, needs: Generation) -> Result<Rule, Fail> {
 /// An impact on three images.
 fn impact_on_three(alloc: Global, by_component: Rule) -> Result<ShownImpact, Fail> {
     let mut bars = Vec::new(alloc);
-    bars.push(barred(alloc, WhichFile::Submitted, State::Open, false, Rule::Digest)?)?;
+    bars.push(barred(
+        alloc,
+        WhichFile::Submitted,
+        State::Open,
+        false,
+        Rule::Digest,
+    )?)?;
     bars.push(barred(
         alloc,
         WhichFile::Returned,

@@ -1,9 +1,7 @@
 //! Lines, GUIDs, digests and DER elements.
 use super::inputs::unbarred;
 use super::{Call, check, narrow, refuse, tell_hex};
-use base::{
-    Digest, Element, Guid, InputFault, WriteFailed, element, parted, put, read_all, tbs,
-};
+use base::{Digest, Element, Guid, InputFault, WriteFailed, element, parted, put, read_all, tbs};
 use std::alloc::Global;
 use std::fmt::Write;
 use std::str;

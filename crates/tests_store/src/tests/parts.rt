@@ -1,5 +1,5 @@
-//! Lists in parts, what waits, and the number that tells of changes, each read from a line and told in
-//! words.
+//! Lists in parts, what waits, and the number that tells of changes, each read from a line and told
+//! in words.
 use super::line::Line;
 use super::*;
 

@@ -1,9 +1,10 @@
 //! The lines of days: `WHO KEY VERB .. : ANSWER` is a call that the desk's view for it decides
-//! first, `alone ..` one without a view, `lists WHO` shows the requests. `requests WHO NUMBER` shows
-//! how many there are from that number on, the first and the last, `proposals WHO NUMBER` the
-//! proposals from there on, `waits WHO` the numbers of requests that wait, and then the proposals, and
-//! `changes WHO` the number that tells of changes. A digest is shown by its first byte. After `reopen`, and after a line in capitals, which is SQL for the store under the
-//! desk, it is opened again.
+//! first, `alone ..` one without a view, `lists WHO` shows the requests. `requests WHO NUMBER`
+//! shows how many there are from that number on, the first and the last, `proposals WHO NUMBER` the
+//! proposals from there on, `waits WHO` the numbers of requests that wait, and then the proposals,
+//! and `changes WHO` the number that tells of changes. A digest is shown by its first byte. After
+//! `reopen`, and after a line in capitals, which is SQL for the store under the desk, it is opened
+//! again.
 
 /// Requests, reviews, returns and listings, and the requests that people are shown. The certificate
 /// is 204, the image 160; 161 is another.
