@@ -1,14 +1,9 @@
--- The step from the last commit of a connection to the history that it shows, and to a desk that is
--- opened over it.
-use Rattle.std.proofs.Common.{◌≡◌, ◌∙◌, ◌⊎◌, inl, inr, refl, ℕ, List, [], ap, length, sym, subst, IsTrue, true, false, arith}
-use Rattle.sqlite.specs.Effect.{Database}
+-- The step from the last commit of a connection to a desk that is opened over it.
+use Rattle.std.proofs.Common.{◌≡◌, ◌∙◌, ◌⊎◌, inl, inr, refl, ℕ, List, length, sym, subst, IsTrue, true, false, arith}
 use Rattle.sqlite.specs.Held.{Held, state}
-use Rattle.sqlite.specs.Order.{Row}
 use Rattle.sqlite.specs.Schema.{Schema}
-use Rattle.sqlite.specs.State.{State, HasCleanDisk, IsLive, Survives}
+use Rattle.sqlite.specs.State.{HasCleanDisk, Survives}
 use Rattle.sqlite.specs.Store.{Ghosts}
-use Rattle.sqlite_catalog.specs.Listing.{AreListed}
-use Rattle.sqlite_trees.specs.Objects.{catalog_tree}
 use Rattle.base.specs.declared.refusal.Refusal.{Refusal}
 use Rattle.base.specs.declared.refusal.Refusal.TheVariants as refusals
 use Rattle.desk_history.specs.Calls.{History}
@@ -17,37 +12,16 @@ use Rattle.store_reads.specs.Failures.{IsFailure}
 use Rattle.store_schema.specs.Names.{takes_a_desk_name}
 use Rattle.store_schema.specs.Tables.{desk_layout, first_layout, no_schema}
 use Rattle.store_schema.specs.rows.Histories.{HoldsFirst, HoldsHistory, LeavesHistory, ShowsFirst, ShowsHistory, first_rows_of, rows_of}
-use Rattle.store_sql.specs.Contents.{AreTablesOf, Contents, IsDatabaseIn}
-use Rattle.store_sql.specs.Layouts.{Fits, Layout}
+use Rattle.store_sql.specs.Contents.{AreTablesOf, Contents}
+use Rattle.store_sql.specs.Layouts.{Layout}
 use Rattle.store_sql.specs.States.{Leaves, Shows, Spares}
-use Rattle.store_sql.proofs.ContentLemmas.{catalog_of}
+use Rattle.store_desk.proofs.ReopeningLemmas.{no_failure}
 use Rattle.store_desk.specs.Desks.{ShowsDesk}
 use Rattle.store_desk.specs.Steps.{Brings}
 use Rattle.store_desk.specs.declared.desk.Desk.{Desk}
 use Rattle.cli_opening.specs.Faults.{IsFindingRefusal, IsMakingRefusal}
 use Rattle.cli_opening.specs.Opening.{FindsOrMakes, HoldsTables, Makes, Opens}
 use Rattle.cli_opening.specs.Refusing.{RefusesDesk, RefusesFinding, RefusesMaking}
-
--- a connection shows the tables of its last commit: their catalog lists their schema, and so no
--- other
-pub shown_by_catalog : (s : State) (layout : Layout) (c : Contents) → layout.schema.views ≡ []
-    → ((objects : List Row) (one other : Schema) → one.views ≡ [] → AreListed objects one → AreListed objects other → one ≡ other)
-    → IsLive s → (IsTrue s.is_open → s.now ≡ s.committed) → s.in_transaction ≡ false → AreTablesOf layout s.committed.trees c → Shows layout s c
-shown_by_catalog s layout c no_view one_schema live settled outside holds = record {
-  outside = outside;
-  holds = λ clean is_open.
-      let now = settled is_open in
-      let mine : AreTablesOf layout s.now.trees c = subst (λ (d : Database). AreTablesOf layout d.trees c) (sym now) holds in
-      let it = mine.sound in
-      let none : it.schema.views ≡ [] = ap (λ (x : Schema). x.views) it.fits.is ∙ no_view in
-      let same : it.schema ≡ s.now.schema = one_schema (s.now.trees catalog_tree) it.schema s.now.schema none (catalog_of it.schema s.now.trees it.sound) (live is_open).0.lists.listed in
-      (record { fits = subst (Fits layout) same it.fits; sound = subst (λ x. IsDatabaseIn x s.now.trees) same it.sound; rows = mine.rows }, now);
-}
-
--- a device's failure isn't that there is no desk
-no_failure : (refusal : Refusal) → refusal ≡ refusals.NotADesk → IsFailure refusal → ⊥
-no_failure refusal is (inl memory) = let e = sym memory ∙ is in cc
-no_failure refusal is (inr store) = let e = sym store ∙ is in cc
 
 module _ {S : Type 0} (g : Ghosts S) (conn : Held S) where
   -- so a desk that is opened over it shows the history of these tables

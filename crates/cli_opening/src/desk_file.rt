@@ -9,7 +9,6 @@ ghost use Rattle.cli_opening.specs.Refusing.{IsNotFound, IsNotMade, IsNotOpened}
 ghost use Rattle.cli_opening.specs.Refusing.{RefusesDesk, RefusesFinding, RefusesMaking};
 
 use crate::connecting::{CacheSize, connect};
-use crate::last_commit::last_commit_is_shown;
 use crate::left::Left;
 use base::{Guid, Refusal};
 use sqlite::{Alter, Connection, FileFrom, FileStore, Start};
@@ -19,7 +18,7 @@ use std::alloc::Global;
 use std::fs::OpenOptions;
 use std::os::unix::fs::OpenOptionsExt;
 use std::{fs, io};
-use store_desk::Desk;
+use store_desk::{Desk, found_is_shown};
 use store_sql::stop_leaves_what_is_shown;
 
 /// The mode of a desk's file: its user alone may read and write it.
@@ -128,7 +127,7 @@ fn open_over<S: Alter + Drop>(
     ensures outside { IfErr result (λ e. e.1.in_transaction ≡ false) }
     ensures named { IfErr result (λ e. IsOpeningRefusal e.0) }
 {
-    last_commit_is_shown(&conn);
+    found_is_shown(&conn);
     stop_leaves_what_is_shown(&conn);
     match Desk::open(alloc, conn) {
         Ok(desk) => Ok(desk),

@@ -5,7 +5,6 @@ mod closing;
 mod connecting;
 mod desk_file;
 mod ended;
-mod last_commit;
 mod laws;
 mod left;
 mod working;

@@ -12,7 +12,7 @@ mod ClosingLemmas
 mod ShowingLemmas
 mod PersonLemmas
 mod QuestionLemmas
-mod ReopeningLemmas
+pub mod ReopeningLemmas
 mod LivingLemmas
 mod FilesLemmas
 mod RestartLemmas

@@ -31,6 +31,7 @@ pub use desk::Desk;
 pub use desk_exports::RequestList;
 pub use laws::notes_allow_a_desk;
 pub use living::{calls_make_lives, openings_begin_lives};
+pub use opening::found_is_shown;
 pub use remains::Remains;
 pub use restarting::{reopen, restart, stop};
 pub use store_counts::{Counts, KindCounts, ListCounts, RequestCounts};

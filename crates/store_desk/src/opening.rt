@@ -182,7 +182,7 @@ pub(crate) fn find_or_migrate<S: Alter>(conn: &mut Connection<S>) -> Result<OwnR
 
 /// A connection outside a transaction shows the history whose tables, of either version, are its
 /// last commit: the catalog in them lists the desk's tables, and no other schema has that catalog.
-pub(crate) fn found_is_shown<S: Alter>(conn: &Connection<S>)
+pub fn found_is_shown<S: Alter>(conn: &Connection<S>)
     requires outside { conn.now.in_transaction ≡ false }
     ensures second { (owner : List ℕ) (cs : History)
         → HoldsHistory (state S.Store conn.now).committed.trees owner cs

@@ -6,7 +6,7 @@ pub returns-in-Ok-clause-opened : goal.returns-in-Ok-clause-opened
 returns-in-Ok-clause-opened g c = record {
   shows = c.in-Ok.ensures.ok;
   migrated = c.in-Ok.ensures.migrated;
-  found = λ clean. found_of_commit g.S.Store c.args.conn c.in-Ok.desk c.last_commit_is_shown.ensures.second c.last_commit_is_shown.ensures.first
+  found = λ clean. found_of_commit g.S.Store c.args.conn c.in-Ok.desk c.found_is_shown.ensures.second c.found_is_shown.ensures.first
       c.stop_leaves_what_is_shown.ensures (c.in-Ok.ensures.ok clean) (c.in-Ok.ensures.migrated clean);
   lives = c.in-Ok.ensures.lives;
   spares = c.in-Ok.ensures.spares;
@@ -20,13 +20,13 @@ returns-in-Err-clause-refused g c =
       other = opening.other;
       none = opening.unread;
       finds = opening.found;
-      known = λ clean. known_of_commit g.S.Store c.args.conn c.in-Err.refusal c.last_commit_is_shown.ensures.second c.last_commit_is_shown.ensures.first
+      known = λ clean. known_of_commit g.S.Store c.args.conn c.in-Err.refusal c.found_is_shown.ensures.second c.found_is_shown.ensures.first
           (λ owner cs long history shows. (opening.known clean owner cs long history shows).0)
           (λ owner cs long history shows. (opening.known_first clean owner cs long history shows).0);
       spares = opening.refused;
       second = opening.spared;
       stopped = opening.failed;
-      left = refused_left g.S.Store c.args.conn c.in-Err.refused c.last_commit_is_shown.ensures.second c.last_commit_is_shown.ensures.first
+      left = refused_left g.S.Store c.args.conn c.in-Err.refused c.found_is_shown.ensures.second c.found_is_shown.ensures.first
           c.stop_leaves_what_is_shown.ensures opening.spared opening.failed;
     }
 
