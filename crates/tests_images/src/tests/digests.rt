@@ -14,7 +14,7 @@ use testing::Slow;
 /// computes; with the second section first, osslsigncode 2.9; and with four directories, Python's
 /// hashlib for the ranges. The others are those in a signature by osslsigncode 2.9; with four
 /// directories, with a table that isn't padded and with a gap, hashlib's for the ranges.
-const DIGESTS: &str = "\
+pub(super) const DIGESTS: &str = "\
 1024 * = \
 aca69e4a6a15817340b124c38fb7d691e63c6e9819cd08c8246acec4c0c2e7db aca69e4a6a15817340b124c38fb7d691e63c6e9819cd08c8246acec4c0c2e7db
 1024 * 84:e000 88:0b01 180:10000000 196:00000000 312:2e74657874000000 328:0002000000020000 344:0000000000000000 = \

@@ -1,7 +1,10 @@
 //! Sources that fail.
 ghost use Rattle.std.specs.Prelude.{replicate};
 
+use super::digests::DIGESTS;
 use super::image;
+use super::layouts::{PARTS, RANGES, with_sections};
+use super::lines::FACTS;
 use authenticode::sums;
 use base::Refusal;
 use cli_output::{Fault, print_ranges};
@@ -45,46 +48,63 @@ impl Source for Failing<'_> {
     }
 }
 
-/// An image with a table and a text.
-const WHOLE: &str =
-    "1584 + 70:0200 232:0006000030000000 368:2e73626174 376:0f000000 384:0002000000040000 \
-    1024:677275622c332c612c622c312c750a 1536:T";
+/// How many reads the facts of an image take.
+fn reads_of(alloc: Global, bytes: &[u8]) -> u64 {
+    let mut source = Failing {
+        bytes,
+        left: u64::MAX,
+        failures: 0,
+    };
+    let _ = facts(alloc, &mut source);
+    u64::MAX - source.left
+}
 
-/// The refusal of an image whose reads fail after this many, or none if it has no more. `File`: a
-/// failed read wasn't reported, or another followed it.
-fn fault_after(alloc: Global, bytes: &[u8], left: u64) -> Option<Refusal> {
+/// Whether a read that fails after this many is told, and none follows it.
+fn is_told(alloc: Global, bytes: &[u8], left: u64) -> bool {
     let mut source = Failing {
         bytes,
         left,
         failures: 0,
     };
-    match facts(alloc, &mut source).err() {
-        Some(fault) if source.failures == 1 => Some(fault.refusal()),
-        None if source.failures == 0 => None,
-        _ => Some(Refusal::File),
+    match facts(alloc, &mut source) {
+        Err(fault) => fault.refusal() == Refusal::Read && source.failures == 1,
+        Ok(_) => false,
     }
 }
 
-/// Every failed read is reported by its own call: within the layout, the digests, the table and the
-/// text.
-#[test]
-fn tells_of_each_read_that_fails(rt: HostRuntime) -> Result<(), Fail> {
-    let bytes = image(rt.alloc(), WHOLE)?;
-    let mut last = 0;
-    for left in 0..200 {
-        match fault_after(rt.alloc(), &bytes, left) {
-            Some(refusal) => {
-                assert!(rt; refusal == Refusal::Read, "{left}");
-                assert!(rt;
-                    left.saturating_sub(last) <= 1,
-                    "none is passed over: {left}"
-                );
-                last = left;
-            }
-            None => {}
+/// How many reads the facts of an image take, if each of them is told where it fails.
+fn reads_told(alloc: Global, bytes: &[u8]) -> Option<u64> {
+    let reads = reads_of(alloc, bytes);
+    for left in 0..reads {
+        if !is_told(alloc, bytes, left) {
+            return None;
         }
     }
-    assert!(rt; 10 <= last && last < 199, "so many reads");
+    Some(reads)
+}
+
+/// The same of all images of a script.
+fn reads_told_in(alloc: Global, script: &str) -> Result<u64, Fail> {
+    let mut reads = 0u64;
+    for line in script.lines() {
+        let (words, _) = line.split_once(" = ").ok_or("a line without an answer")?;
+        let bytes = image(alloc, words)?;
+        let own = reads_told(alloc, &bytes).ok_or("a read that fails isn't told")?;
+        reads = reads.saturating_add(own);
+    }
+    Ok(reads)
+}
+
+/// Of whichever image, taken or refused, every failed read is reported by its own call: within the
+/// layout, the digests, the table and the text.
+#[test]
+fn tells_of_each_read_that_fails(rt: HostRuntime) -> Result<(), Fail> {
+    for script in [FACTS, RANGES, PARTS, DIGESTS] {
+        let reads = reads_told_in(rt.alloc(), script)?;
+        assert!(rt; 50 <= reads, "so many reads");
+    }
+    let bytes = with_sections(rt.alloc(), 96)?;
+    assert!(rt; reads_told(rt.alloc(), &bytes).is_some());
     Ok(())
 }
 

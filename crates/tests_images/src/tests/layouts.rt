@@ -10,7 +10,7 @@ use std::test::Fail;
 /// first; with four and five directories; followed by bytes; with a table, padded and not; with a
 /// gap; with a table that has an offset and no size; with CheckSum across a border of pieces. Then
 /// images that are refused.
-const RANGES: &str = "\
+pub(super) const RANGES: &str = "\
 1024 + = 0-152;156-232;240-512;512-1024;gap 0;
 1024 + 156:0d = 0-152;156-232;240-512;512-1024;gap 0;
 1024 - = 0-152;156-216;224-512;512-1024;gap 0;
@@ -63,7 +63,7 @@ fn prints_the_ranges_of_an_image(rt: HostRuntime) -> Result<(), Fail> {
 
 /// The table and the text of `.sbat`: another name, with a VirtualSize, without one, with one past
 /// the section; both of the greatest size.
-const PARTS: &str = "\
+pub(super) const PARTS: &str = "\
 1024 + = no table, no text
 1024 + 232:00040000 = no table, no text
 1080 + 232:0804000030000000 = 1032 to 1080, no text
@@ -128,7 +128,7 @@ fn put_section(image: &mut [u8], row: u8, count: u8) {
 }
 
 /// An image with this many sections.
-fn with_sections(alloc: Global, count: u8) -> Result<Vec<u8>, Fail> {
+pub(super) fn with_sections(alloc: Global, count: u8) -> Result<Vec<u8>, Fail> {
     let mut bytes = image(alloc, "8192 + 148:00140000")?;
     put(&mut bytes, 70, &[count, 0]);
     for row in 0..count {

@@ -17,7 +17,7 @@ use testing::Narrow;
 
 /// The printed facts of images: PE32+, PE32 to be padded, with a certificate, with components too;
 /// and the first fault. The digests are those of Python's hashlib for the file and for the ranges.
-const FACTS: &str = "\
+pub(super) const FACTS: &str = "\
 1024 + = \
 length 1024;file e4c220d8dab039abb3652b6fa6a553ed2263ecd9bc8c21da0d6b8015b6e0d14c;digest a035ceb75d7d18f5784a0da16d4cbfcc277a24990091c0827616a97541c6178b;signing a035ceb75d7d18f5784a0da16d4cbfcc277a24990091c0827616a97541c6178b;gap 0;
 1029 - = \
