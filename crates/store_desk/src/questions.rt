@@ -26,9 +26,9 @@ use sqlite::{Alter, Transaction};
 use std::alloc::Global;
 use std::marker::PhantomData;
 use store_counts::{Counts, counts};
+use store_decision_rows::{KnownSizes, Remembered, list_view, view};
 use store_reads::person_of_token;
 use store_shown::{proposals_of, request, requests_of};
-use store_decision_rows::{KnownSizes, Remembered, list_view, view};
 
 /// Who has the token of this SHA-256?
 #[derive(Drop)]
