@@ -147,11 +147,11 @@ fn audit_job(words: AuditWords<'_>) -> Result<Job<'_>, Stop> {
     Ok(Job::Audit { owner, file, what })
 }
 
-/// Packs the standard input under the owner that a word spells.
-fn pack_under(rt: &HostRuntime, owner: &str) -> Result<(), Stop> {
+/// Packs the standard input under the owner that a word spells. No job is left.
+fn pack_under<'a>(rt: &HostRuntime, owner: &str) -> Result<Option<Job<'a>>, Stop> {
     let owner = owner_from(owner)?;
     pack_input(rt, &owner)?;
-    Ok(())
+    Ok(None)
 }
 
 /// That a subcommand without a desk was done, and no job is left.
@@ -162,27 +162,19 @@ fn alone<'a>(done: Result<(), Fault>) -> Result<Option<Job<'a>>, Stop> {
     }
 }
 
-/// The same of a job that is left.
-fn at_desk<'a>(job: Result<Job<'a>, Stop>) -> Result<Option<Job<'a>>, Stop> {
-    match job {
-        Ok(job) => Ok(Some(job)),
-        Err(why) => Err(why),
-    }
-}
-
 /// Reads the values of a subcommand's words. One that needs no desk is done, and no job is left.
 fn job_of<'a>(rt: &HostRuntime, line: Words<'a>) -> Result<Option<Job<'a>>, Stop> {
     match line {
-        Words::Init { db, owner } => at_desk(init_job(db, owner)),
-        Words::Person(words) => at_desk(person_job(rt, words)),
-        Words::Enrol(words) => at_desk(enrol_job(rt, words)),
-        Words::Follow(words) => at_desk(follow_job(words)),
-        Words::Serve(words) => at_desk(serve_job(words)),
+        Words::Init { db, owner } => Ok(Some(init_job(db, owner)?)),
+        Words::Person(words) => Ok(Some(person_job(rt, words)?)),
+        Words::Enrol(words) => Ok(Some(enrol_job(rt, words)?)),
+        Words::Follow(words) => Ok(Some(follow_job(words)?)),
+        Words::Serve(words) => Ok(Some(serve_job(words)?)),
         Words::Answer { db } => Ok(Some(Job::Answer { db })),
         Words::Facts { file } => alone(facts_of(rt, file)),
         Words::Ranges { file } => alone(ranges_of(rt, file)),
         Words::Verdict { db, file } => Ok(Some(Job::Judge { db, file })),
-        Words::Impact { db, number } => at_desk(impact_job(db, number)),
+        Words::Impact { db, number } => Ok(Some(impact_job(db, number)?)),
         Words::Db { db } => Ok(Some(Job::Export {
             db,
             what: Export::Db,
@@ -199,12 +191,9 @@ fn job_of<'a>(rt: &HostRuntime, line: Words<'a>) -> Result<Option<Job<'a>>, Stop
             db,
             what: Export::Level,
         })),
-        Words::Audit(words) => at_desk(audit_job(words)),
+        Words::Audit(words) => Ok(Some(audit_job(words)?)),
         Words::List { file } => alone(list_in(rt, file)),
-        Words::Pack { owner } => match pack_under(rt, owner) {
-            Ok(()) => Ok(None),
-            Err(why) => Err(why),
-        },
+        Words::Pack { owner } => pack_under(rt, owner),
         Words::Minutes { db } => Ok(Some(Job::Export {
             db,
             what: Export::Minutes,
