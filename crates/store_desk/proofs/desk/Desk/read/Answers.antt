@@ -1,5 +1,7 @@
-use Rattle.std.proofs.Common.{inl, inr}
+use Rattle.std.proofs.Common.{Ok, inl, inr, refl}
 use Rattle.desk_exports.specs.Readings.{IsShownTo}
+use Rattle.desk_exports.specs.declared.shown.Shown.TheVariants as shown
+use Rattle.desk_history.specs.PeopleShown.{shown_person}
 use Rattle.store_desk.proofs.ReadingLemmas.{gives_for, refuses_for, shut_for}
 use Rattle.store_desk.proofs.desk.Desk.read.Goals as goal
 
@@ -140,3 +142,17 @@ returns-in-Report-clause-closed g c was =
           (elim shut.0 [ inl reopen ↦ inl reopen | inr each ↦ inr (λ owner cs. each cs) ]),
       shut.1,
     )
+
+-- the person's own name and role, whatever the desk holds
+
+pub returns-in-Me-clause-shown : goal.returns-in-Me-clause-shown
+returns-in-Me-clause-shown g c =
+    gives_for g.S.Store c.args.self.now c.args.self.now (Ok (shown.Me (shown_person c.args.person))) (λ z owner cs. IsShownTo g.L.RequestList.holds owner cs c.args.person z) c.args.reading _ c.in-Me.is
+    (λ clean owner cs was. refl)
+
+pub returns-in-Me-clause-closed : goal.returns-in-Me-clause-closed
+returns-in-Me-clause-closed g c was = (
+  shut_for (Ok (shown.Me (shown_person c.args.person))) (λ z owner cs. IsShownTo g.L.RequestList.holds owner cs c.args.person z) c.args.reading _ c.in-Me.is
+      (inr (λ owner cs. refl)),
+  refl,
+)
