@@ -56,8 +56,8 @@ impl<S: Alter + Drop> Desk<S> {
             Reading::Export(what) => self.show_export(what),
             Reading::Report => self.show_report(role),
             Reading::Minutes(from) => self.show_minutes(&Caller::Person(name), from),
-            Reading::People => self.show_people(&Caller::Person(name)),
             Reading::Me => Ok(Shown::Me(ShownPerson { name, role })),
+            Reading::People => self.show_people(&Caller::Person(name)),
         }
     }
 }
