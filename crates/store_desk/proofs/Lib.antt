@@ -2,7 +2,6 @@ mod BesideLemmas
 mod FoundingLemmas
 mod RememberedLemmas
 mod StampLemmas
-mod OfficerLemmas
 mod OpeningLemmas
 mod VersionLemmas
 mod ActingLemmas

@@ -5,7 +5,6 @@ use Rattle.std.specs.List.{list_any}
 use Rattle.std.proofs.lemmas.Bool.{and_parts, not-true, or_parts}
 use Rattle.sqlite.specs.Store as store
 use Rattle.base.specs.declared.refusal.Refusal.{Refusal}
-use Rattle.desk_types.specs.declared.caller.Caller.{Caller}
 use Rattle.desk_types.specs.declared.command.Person.{Person}
 use Rattle.desk_history.specs.Calls.{History, are_apart}
 use Rattle.desk_history.specs.Formed.{IsHistory}
@@ -46,14 +45,13 @@ module _ {S A : Type 0} (g : store.Ghosts S) (may : Refusal → Type 0) (old new
     named = it.named;
   }
 
-module _ {S : Type 0} (g : store.Ghosts S) (old : Desk S) {left person : Option Person} {caller named : Caller} (none : left ≡ None) (taken : person ≡ old.remembered.person) (is : caller ≡ named) where
-  -- what was told of each history to the person of a name, with the person who was taken
-  pub asked : (told : Caller → List ℕ → History → Type 0)
-      → ForEachShown g (record old { remembered = record old.remembered { person = left } }) (λ owner cs. IsOneOf person (people cs) → told named owner cs)
-      → ForEachShown g old (told caller)
+module _ {S : Type 0} (g : store.Ghosts S) (old : Desk S) {left person : Option Person} (none : left ≡ None) (taken : person ≡ old.remembered.person) where
+  -- what was told of each history, with the person who was taken
+  pub asked : (told : List ℕ → History → Type 0)
+      → ForEachShown g (record old { remembered = record old.remembered { person = left } }) (λ owner cs. IsOneOf person (people cs) → told owner cs)
+      → ForEachShown g old told
   asked told each = λ owner cs was.
-      let one : IsOneOf person (people cs) = subst (λ (o : Option Person). IsOneOf o (people cs)) (sym taken) was.remembered.person in
-      subst (λ (who : Caller). told who owner cs) (sym is) (each owner cs (without_person g old left none owner cs was) one)
+      each owner cs (without_person g old left none owner cs was) (subst (λ (o : Option Person). IsOneOf o (people cs)) (sym taken) was.remembered.person)
 
 -- ---- the only one who has a token is the only one of that name
 

@@ -1,16 +1,19 @@
 -- A reading, from the call of its name.
 use Rattle.std.proofs.Common.{◌≡◌, ◌≢◌, ◌⊎◌, inl, inr, ℕ, List, Bool, true, false, Result, Ok, Err, refl, sym, ap, subst, ◌∙◌, arith}
-use Rattle.std.specs.Prelude.{IfErr, MatchResult}
+use Rattle.std.specs.Prelude.{IfErr, IsTrue, MatchResult}
 use Rattle.sqlite.specs.Store as store
 use Rattle.base.specs.declared.refusal.Refusal.{Refusal}
 use Rattle.base.specs.declared.refusal.Refusal.TheVariants as refusals
+use Rattle.desk_exports.specs.Readings.{may_refuse}
 use Rattle.desk_exports.specs.declared.reading.Reading.{Reading}
 use Rattle.desk_history.specs.Calls.{History}
 use Rattle.desk_history.specs.Shown.{IsGiven}
 use Rattle.store_reads.specs.Failures.{IsFailure}
 use Rattle.store_desk.specs.Desks.{ReadsDesk}
-use Rattle.store_desk.specs.Showing.{GivesDue, IsReopened, ReadsOnly, RefusesDue}
+use Rattle.store_desk.specs.Showing.{GivesDue, IsReadingRefusal, IsReopened, ReadsOnly, RefusesDue}
 use Rattle.store_desk.specs.declared.desk.Desk.{Desk}
+use Rattle.store_desk.proofs.RefusalLemmas.{never_store}
+use Rattle.store_desk.proofs.StreamLemmas.{no_store_either}
 
 -- ---- what is given
 
@@ -19,6 +22,12 @@ pub as_given : {A B C : Type 0} (d : Result A Refusal) (P : A → B → Type 0) 
     → MatchResult d (λ w. P w x) (λ _. ⊥) → IsGiven d (Ok s) Q
 as_given (Ok w) P Q x s each h = each w h
 as_given (Err refusal) P Q x s each h = absurd h
+
+-- what is given is shown so
+pub given_as : {A B C : Type 0} (d : Result A Refusal) (P : A → B → Type 0) (Q : A → C → Type 0) (x : B) (s : C) → ((w : A) → P w x → Q w s)
+    → IsGiven d (Ok x) P → IsGiven d (Ok s) Q
+given_as (Ok w) P Q x s each h = each w h
+given_as (Err refusal) P Q x s each h = h
 
 -- ---- what came of the desk
 
@@ -76,6 +85,36 @@ module _ {S : Type 0} (g : store.Ghosts S) (may : Refusal → Type 0) (old new :
 pub reads_refused : {S A B : Type 0} (g : store.Ghosts S) (may : Refusal → Type 0) (old new : Desk S) (refusal : Refusal)
     → ReadsDesk {A = A} g may old new (Err refusal) → ReadsOnly {A = B} g may old new (Err refusal)
 reads_refused g may old new refusal it = reads_err g may old new may refusal (λ is. is) (of_reads g may old new (Err refusal) it)
+
+-- ---- what came of a question of a person
+
+told : {A : Type 0} (reading : Reading) (given : Result A Refusal) → IfErr given (λ r. IsTrue (may_refuse reading r)) → IfErr given (IsReadingRefusal reading)
+told reading (Ok x) may = tt
+told reading (Err refusal) may = inl may
+
+-- what is given, or a refusal by the rules
+pub reads_given : {S A : Type 0} (g : store.Ghosts S) (reading : Reading) (old new : Desk S) (given : Result A Refusal) → IfErr given (λ r. IsTrue (may_refuse reading r))
+    → ReadsDesk g IsFailure old new (Ok given) → ReadsDesk g (IsReadingRefusal reading) old new given
+reads_given g reading old new given may it = record {
+  same = λ clean other. it.same clean (λ is. absurd cc);
+  spares = it.spares;
+  poisons = λ is. absurd (never_store reading given may is);
+  steady = λ other. it.steady (λ is. absurd cc);
+  closed = λ is. absurd (let h = (it.closed is).0 in cc);
+  named = λ usable. told reading given may;
+}
+
+-- a failure
+pub reads_failed : {S A B : Type 0} (g : store.Ghosts S) (reading : Reading) (old new : Desk S) (failure : Refusal) → old.needs_reopening ≡ false
+    → ReadsDesk {A = A} g IsFailure old new (Err failure) → ReadsDesk {A = B} g (IsReadingRefusal reading) old new (Err failure)
+reads_failed {A = A} {B = B} g reading old new failure usable it = record {
+  same = λ clean other. it.same clean (no_store_either {A = A} {B = B} failure other);
+  spares = it.spares;
+  poisons = λ is. it.poisons (let same : failure ≡ refusals.Store = cc in ap Err same);
+  steady = λ other. it.steady (no_store_either {A = A} {B = B} failure other);
+  closed = λ is. absurd (let h = sym is ∙ usable in cc);
+  named = λ usable. inr (it.named usable);
+}
 
 -- ---- what is given, for a reading that is known
 

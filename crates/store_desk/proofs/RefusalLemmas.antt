@@ -1,9 +1,11 @@
 -- Refusals of what was read, in the words of readings.
 use Rattle.std.proofs.Common.{◌⊎◌, inl, inr, IsTrue, false, refl, sym, subst, Result, Ok, Err}
-use Rattle.std.specs.Prelude.{IfErr}
+use Rattle.std.specs.Prelude.{◌≡◌, IfErr, IfOk, IsErrOf}
 use Rattle.base.specs.declared.refusal.Refusal.{Refusal}
 use Rattle.base.specs.declared.refusal.Refusal.TheVariants as refusals
-use Rattle.desk_exports.specs.Readings.{hides_impact, hides_proposal, hides_request, turns_away}
+use Rattle.desk_exports.specs.Readings.{hides_impact, hides_proposal, hides_request, may_refuse, turns_away}
+use Rattle.desk_exports.specs.declared.reading.Reading.{Reading}
+use Rattle.desk_exports.specs.declared.reading.Reading.TheVariants as read
 use Rattle.desk_rules.specs.Foreseen.{may_foresee}
 use Rattle.store_reads.specs.Failures.{IsFailure}
 use Rattle.store_shown.specs.Telling.{IsOfficerRefusal, IsProposalRefusal, IsReaderRefusal, IsRequestRefusal}
@@ -25,21 +27,25 @@ one_proposal r (inl (inl is)) = subst (λ x. IsTrue (hides_proposal x)) (sym is)
 one_proposal r (inl (inr is)) = subst (λ x. IsTrue (hides_proposal x)) (sym is) refl
 one_proposal r (inr is) = subst (λ x. IsTrue (hides_proposal x)) (sym is) refl
 
-in_result : {A : Type 0} (may told : Refusal → Type 0) → ((r : Refusal) → may r → told r) → (given : Result A Refusal) → IfErr given may → IfErr given told
-in_result may told each (Ok x) h = tt
-in_result may told each (Err r) h = each r h
+-- the refusals of a read that was done, in the words of readings
+in_read : {A E : Type 0} (may told : Refusal → Type 0) → ((r : Refusal) → may r → told r) → (result : Result (Result A Refusal) E)
+    → IfOk result (λ given. IfErr given may) → IfOk result (λ given. IfErr given told)
+in_read may told each (Err e) h = tt
+in_read may told each (Ok (Ok x)) h = tt
+in_read may told each (Ok (Err r)) h = each r h
 
-pub reader_told : {A : Type 0} (given : Result A Refusal) → IfErr given IsReaderRefusal → IfErr given (λ r. IsTrue (turns_away r))
-reader_told given = in_result IsReaderRefusal (λ r. IsTrue (turns_away r)) reader given
+module _ {A E : Type 0} (result : Result (Result A Refusal) E) where
+  pub reader_read : IfOk result (λ given. IfErr given IsReaderRefusal) → IfOk result (λ given. IfErr given (λ r. IsTrue (turns_away r)))
+  reader_read = in_read IsReaderRefusal (λ r. IsTrue (turns_away r)) reader result
 
-pub officer_told : {A : Type 0} (given : Result A Refusal) → IfErr given IsOfficerRefusal → IfErr given (λ r. IsTrue (turns_away r))
-officer_told given = in_result IsOfficerRefusal (λ r. IsTrue (turns_away r)) officer given
+  pub officer_read : IfOk result (λ given. IfErr given IsOfficerRefusal) → IfOk result (λ given. IfErr given (λ r. IsTrue (turns_away r)))
+  officer_read = in_read IsOfficerRefusal (λ r. IsTrue (turns_away r)) officer result
 
-pub request_told : {A : Type 0} (given : Result A Refusal) → IfErr given IsRequestRefusal → IfErr given (λ r. IsTrue (hides_request r))
-request_told given = in_result IsRequestRefusal (λ r. IsTrue (hides_request r)) one_request given
+  pub request_read : IfOk result (λ given. IfErr given IsRequestRefusal) → IfOk result (λ given. IfErr given (λ r. IsTrue (hides_request r)))
+  request_read = in_read IsRequestRefusal (λ r. IsTrue (hides_request r)) one_request result
 
-pub proposal_told : {A : Type 0} (given : Result A Refusal) → IfErr given IsProposalRefusal → IfErr given (λ r. IsTrue (hides_proposal r))
-proposal_told given = in_result IsProposalRefusal (λ r. IsTrue (hides_proposal r)) one_proposal given
+  pub proposal_read : IfOk result (λ given. IfErr given IsProposalRefusal) → IfOk result (λ given. IfErr given (λ r. IsTrue (hides_proposal r)))
+  proposal_read = in_read IsProposalRefusal (λ r. IsTrue (hides_proposal r)) one_proposal result
 
 -- ---- impacts
 
@@ -62,3 +68,27 @@ impact_refused r (inl (inl is)) = inl (subst (λ x. IsTrue (hides_impact x)) (sy
 impact_refused r (inl (inr is)) = inl (subst (λ x. IsTrue (hides_impact x)) (sym is) refl)
 impact_refused r (inr (inl met)) = foreseen r met
 impact_refused r (inr (inr failed)) = inr failed
+
+-- ---- the store's failure
+
+-- no reading is refused with the store's failure by the rules
+no_store : (reading : Reading) → IsTrue (may_refuse reading refusals.Store) → ⊥
+no_store read.Requests h = not_true h
+no_store (read.RequestsFrom n) h = not_true h
+no_store (read.Request k) h = not_true h
+no_store read.Proposals h = not_true h
+no_store (read.ProposalsFrom n) h = not_true h
+no_store (read.Proposal k) h = not_true h
+no_store (read.Impact k) h = not_true h
+no_store read.Waiting h = not_true h
+no_store read.Changes h = not_true h
+no_store read.Dbx h = not_true h
+no_store read.Db h = not_true h
+no_store read.Level h = not_true h
+no_store read.Report h = not_true h
+no_store (read.Minutes n) h = not_true h
+no_store read.People h = not_true h
+
+pub never_store : {A : Type 0} (reading : Reading) (given : Result A Refusal) → IfErr given (λ r. IsTrue (may_refuse reading r)) → IsErrOf given refusals.Store → ⊥
+never_store reading (Ok x) may is = absurd cc
+never_store reading (Err refusal) may is = let same : refusal ≡ refusals.Store = cc in no_store reading (subst (λ r. IsTrue (may_refuse reading r)) same may)

@@ -42,7 +42,7 @@ answers (Ok x) h = tt
 answers (Err refusal) h = wider refusal h
 
 -- a refusal that isn't Store, of whatever kind the result would be
-no_store_either : {A B : Type 0} (refusal : Refusal) → (◌≡◌ {A = Result B Refusal} (Err refusal) (Err refusals.Store) → ⊥) → ◌≡◌ {A = Result A Refusal} (Err refusal) (Err refusals.Store) → ⊥
+pub no_store_either : {A B : Type 0} (refusal : Refusal) → (◌≡◌ {A = Result B Refusal} (Err refusal) (Err refusals.Store) → ⊥) → ◌≡◌ {A = Result A Refusal} (Err refusal) (Err refusals.Store) → ⊥
 no_store_either refusal other is = other (let same : refusal ≡ refusals.Store = cc in ap Err same)
 
 -- a failure is passed on

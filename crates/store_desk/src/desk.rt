@@ -38,8 +38,8 @@ use desk_types::{Caller, Command, Facts, Key, Reply, call_is_formed};
 use sbat::Stamp;
 use sqlite::{Alter, Connection};
 use std::alloc::Global;
-use store_sql::stop_leaves_what_is_shown;
 use store_decision_rows::Remembered;
+use store_sql::stop_leaves_what_is_shown;
 
 /// A desk in a store. It has the connection, the owner of each entry that it exports, and what it
 /// remembers between calls: the level's stamp, the sizes of its tables that it has counted, and the

@@ -30,8 +30,8 @@ use desk_rules::{Entries, Foreseen, View, foresee};
 use desk_types::{Caller, Person, ProposalNumber};
 use sqlite::{Alter, Transaction};
 use std::alloc::Global;
-use store_impacts::{TouchedImage, barred_images, refusal_to, touched_images, untouched_bars_none};
 use store_decision_rows::{KnownSizes, Remembered, view_to_confirm};
+use store_impacts::{TouchedImage, barred_images, refusal_to, touched_images, untouched_bars_none};
 
 /// What is known of an impact before the images are looked for: its counts, the length of dbx, and
 /// the proposal's entries.

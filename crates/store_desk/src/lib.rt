@@ -18,14 +18,15 @@ mod officers;
 mod opening;
 mod own_lines;
 mod part_questions;
+mod person_questions;
 mod questions;
 mod reading;
 mod remains;
 mod restarting;
 mod showing;
 mod showing_parts;
+mod shown_answers;
 mod shown_each;
-mod shown_parts;
 
 pub use desk::Desk;
 pub use desk_exports::RequestList;

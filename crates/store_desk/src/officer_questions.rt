@@ -1,105 +1,91 @@
 //! The questions whose answers only officers are shown.
-ghost use Rattle.std.specs.Prelude.{◌≡◌, IfErr};
+ghost use Rattle.std.specs.Prelude.{◌≡◌};
 ghost use Rattle.desk_exports.specs.MinutesShown.{minutes_for};
-ghost use Rattle.desk_history.specs.People.{people};
 ghost use Rattle.desk_history.specs.PeopleShown.{ShowsPeople, people_for};
 ghost use Rattle.desk_history.specs.ProposalShown.{proposal_for};
 ghost use Rattle.desk_history.specs.Shown.{IsGiven};
-ghost use Rattle.store_reads.specs.People.{IsOneOf};
-ghost use Rattle.store_shown.specs.Telling.{IsOfficerRefusal, IsProposalRefusal};
+ghost use Rattle.desk_exports.specs.declared.reading.Reading.TheVariants as read;
 ghost use Rattle.desk_types.specs.declared.caller.Caller.TheVariants as callers;
 
-use crate::asking::Question;
+use crate::person_questions::PersonQuestion;
 use base::Refusal;
 use desk_history::{ProposalRow, ShownPerson};
 use desk_types::{Person, PersonName, ProposalNumber};
 use sqlite::{Alter, Transaction};
 use std::alloc::Global;
+use store_reads::ReadFault;
 use store_shown::{minutes_from, people_for_officer, proposal_for_officer};
 
-/// What is the person of this name, who may be the one who is remembered, shown of the proposal of this
-/// number?
+/// What is the person shown of the proposal of this number?
 #[derive(Drop)]
-pub(crate) struct OneProposal<'a> {
-    pub(crate) person: &'a Option<Person>,
-    pub(crate) name: &'a PersonName,
+pub(crate) struct OneProposal {
     pub(crate) number: ProposalNumber,
 }
 
-impl<'a> Question for OneProposal<'a> {
-    type Answer = Result<ProposalRow, Refusal>;
+impl PersonQuestion for OneProposal {
+    type Given = ProposalRow;
 
-    ghost tells = { λ q given owner cs. IsOneOf q.person.now (people cs)
-        → proposal_for cs (callers.Person q.name.now) q.number ≡ given };
+    ghost reading = { λ q. read.Proposal q.number };
 
-    ghost bounds = { λ _ given. IfErr given IsProposalRefusal };
+    ghost gives = { λ q name cs given. proposal_for cs (callers.Person name) q.number ≡ given };
 
-    fn read<S: Alter>(
+    fn read_for<S: Alter>(
         &self,
         alloc: Global,
         tx: &mut Transaction<'_, S>,
-    ) -> Result<Result<ProposalRow, Refusal>, Refusal> {
-        match proposal_for_officer(alloc, tx, self.person.as_ref(), self.name, self.number) {
-            Ok(given) => Ok(given),
-            Err(fault) => Err(fault.refusal()),
-        }
+        kept_person: Option<&Person>,
+        name: &PersonName,
+    ) -> Result<Result<ProposalRow, Refusal>, ReadFault> {
+        proposal_for_officer(alloc, tx, kept_person, name, self.number)
     }
 }
 
-/// Which people is the person of this name, who may be the one who is remembered, shown?
+/// Which people is the person shown?
 #[derive(Drop)]
-pub(crate) struct AllPeople<'a> {
-    pub(crate) person: &'a Option<Person>,
-    pub(crate) name: &'a PersonName,
-}
+pub(crate) struct AllPeople;
 
-impl<'a> Question for AllPeople<'a> {
-    type Answer = Result<Vec<ShownPerson>, Refusal>;
+impl PersonQuestion for AllPeople {
+    type Given = Vec<ShownPerson>;
 
-    ghost tells = { λ q given owner cs. IsOneOf q.person.now (people cs)
-        → IsGiven (people_for cs (callers.Person q.name.now)) given
+    ghost reading = { λ _. read.People };
+
+    ghost gives = { λ _ name cs given.
+        IsGiven (people_for cs (callers.Person name)) given
         (λ ps shown. ShowsPeople ps shown.items) };
 
-    ghost bounds = { λ _ given. IfErr given IsOfficerRefusal };
-
-    fn read<S: Alter>(
+    fn read_for<S: Alter>(
         &self,
         alloc: Global,
         tx: &mut Transaction<'_, S>,
-    ) -> Result<Result<Vec<ShownPerson>, Refusal>, Refusal> {
-        match people_for_officer(alloc, tx, self.person.as_ref(), self.name) {
-            Ok(given) => Ok(given),
-            Err(fault) => Err(fault.refusal()),
-        }
+        kept_person: Option<&Person>,
+        name: &PersonName,
+    ) -> Result<Result<Vec<ShownPerson>, Refusal>, ReadFault> {
+        people_for_officer(alloc, tx, kept_person, name)
     }
 }
 
-/// Which lines of the minutes, from this number on, is the person of this name, who may be the one
-/// who is remembered, shown?
+/// Which lines of the minutes, from this number on, is the person shown?
 #[derive(Drop)]
-pub(crate) struct MinutesFrom<'a> {
-    pub(crate) person: &'a Option<Person>,
-    pub(crate) name: &'a PersonName,
+pub(crate) struct MinutesFrom {
     pub(crate) number: u64,
 }
 
-impl<'a> Question for MinutesFrom<'a> {
-    type Answer = Result<Vec<u8>, Refusal>;
+impl PersonQuestion for MinutesFrom {
+    type Given = Vec<u8>;
 
-    ghost tells = { λ q given owner cs. IsOneOf q.person.now (people cs)
-        → IsGiven (minutes_for cs (callers.Person q.name.now) q.number) given
+    ghost reading = { λ q. read.Minutes q.number };
+
+    ghost gives = { λ q name cs given.
+        IsGiven (minutes_for cs (callers.Person name) q.number) given
         (λ lines text. text.items ≡ lines) };
 
-    ghost bounds = { λ _ given. IfErr given IsOfficerRefusal };
-
-    fn read<S: Alter>(
+    fn read_for<S: Alter>(
         &self,
         alloc: Global,
         tx: &mut Transaction<'_, S>,
-    ) -> Result<Result<Vec<u8>, Refusal>, Refusal> {
-        match minutes_from(alloc, tx, self.person.as_ref(), self.name, self.number) {
-            Ok(given) => Ok(given),
-            Err(fault) => Err(fault.refusal()),
-        }
+        kept_person: Option<&Person>,
+        name: &PersonName,
+    ) -> Result<Result<Vec<u8>, Refusal>, ReadFault> {
+        minutes_from(alloc, tx, kept_person, name, self.number)
     }
 }

@@ -1,139 +1,121 @@
-//! The questions about lists in parts, about what waits, and about changes.
-ghost use Rattle.std.specs.Prelude.{◌≡◌, IfErr, map};
+//! A person's questions about lists in parts, about what waits, and about changes.
+ghost use Rattle.std.specs.Prelude.{◌≡◌, map};
 ghost use Rattle.desk_exports.specs.Readings.{HoldsShown};
 ghost use Rattle.desk_exports.specs.Changes.{changes_for};
 ghost use Rattle.desk_exports.specs.ListParts as part;
-ghost use Rattle.desk_history.specs.People.{people};
 ghost use Rattle.desk_history.specs.Shown.{IsGiven, shown_proposal};
 ghost use Rattle.desk_exports.specs.Waiting.{waiting_for};
-ghost use Rattle.store_reads.specs.People.{IsOneOf};
-ghost use Rattle.store_shown.specs.Telling.{IsOfficerRefusal, IsReaderRefusal};
+ghost use Rattle.desk_exports.specs.declared.reading.Reading.TheVariants as read;
 ghost use Rattle.store_shown.specs.Waits.{ShowsWaiting};
 ghost use Rattle.desk_types.specs.declared.caller.Caller.TheVariants as callers;
 
-use crate::asking::Question;
+use crate::person_questions::PersonQuestion;
 use base::Refusal;
 use desk_exports::RequestList;
 use desk_types::{Person, PersonName, Proposal};
 use sqlite::{Alter, Transaction};
 use std::alloc::Global;
 use std::marker::PhantomData;
+use store_reads::ReadFault;
 use store_shown::{Waits, changes_of, proposals_from, requests_from, waiting_of};
 
-/// Which requests from this number on is the person of this name, who may be the one who is
-/// remembered, shown? They are collected into an `L`.
+/// Which requests from this number on is the person shown? They are collected into an `L`.
 #[derive(Drop)]
-pub(crate) struct PartOfRequests<'a, L> {
-    pub(crate) person: &'a Option<Person>,
-    pub(crate) name: &'a PersonName,
+pub(crate) struct PartOfRequests<L> {
     pub(crate) number: u64,
     pub(crate) list: PhantomData<L>,
 }
 
-impl<'a, L: RequestList + Drop> Question for PartOfRequests<'a, L> {
-    type Answer = Result<L, Refusal>;
+impl<L: RequestList + Drop> PersonQuestion for PartOfRequests<L> {
+    type Given = L;
 
-    ghost tells = { λ q given owner cs. IsOneOf q.person.now (people cs)
-        → IsGiven (part.requests_from cs (callers.Person q.name.now) q.number) given
+    ghost reading = { λ q. read.RequestsFrom q.number };
+
+    ghost gives = { λ q name cs given.
+        IsGiven (part.requests_from cs (callers.Person name) q.number) given
         (HoldsShown L.RequestList.holds) };
 
-    ghost bounds = { λ _ given. IfErr given IsReaderRefusal };
-
-    fn read<S: Alter>(
+    fn read_for<S: Alter>(
         &self,
         alloc: Global,
         tx: &mut Transaction<'_, S>,
-    ) -> Result<Result<L, Refusal>, Refusal> {
-        match requests_from(alloc, tx, self.person.as_ref(), self.name, self.number) {
-            Ok(given) => Ok(given),
-            Err(fault) => Err(fault.refusal()),
-        }
+        kept_person: Option<&Person>,
+        name: &PersonName,
+    ) -> Result<Result<L, Refusal>, ReadFault> {
+        requests_from(alloc, tx, kept_person, name, self.number)
     }
 }
 
-/// Which proposals from this number on is the person of this name, who may be the one who is
-/// remembered, shown?
+/// Which proposals from this number on is the person shown?
 #[derive(Drop)]
-pub(crate) struct PartOfProposals<'a> {
-    pub(crate) person: &'a Option<Person>,
-    pub(crate) name: &'a PersonName,
+pub(crate) struct PartOfProposals {
     pub(crate) number: u64,
 }
 
-impl<'a> Question for PartOfProposals<'a> {
-    type Answer = Result<Vec<Proposal>, Refusal>;
+impl PersonQuestion for PartOfProposals {
+    type Given = Vec<Proposal>;
 
-    ghost tells = { λ q given owner cs. IsOneOf q.person.now (people cs)
-        → IsGiven (part.proposals_from cs (callers.Person q.name.now) q.number) given
+    ghost reading = { λ q. read.ProposalsFrom q.number };
+
+    ghost gives = { λ q name cs given.
+        IsGiven (part.proposals_from cs (callers.Person name) q.number) given
         (λ ps shown. shown.items ≡ map (shown_proposal cs) ps) };
 
-    ghost bounds = { λ _ given. IfErr given IsOfficerRefusal };
-
-    fn read<S: Alter>(
+    fn read_for<S: Alter>(
         &self,
         alloc: Global,
         tx: &mut Transaction<'_, S>,
-    ) -> Result<Result<Vec<Proposal>, Refusal>, Refusal> {
-        match proposals_from(alloc, tx, self.person.as_ref(), self.name, self.number) {
-            Ok(given) => Ok(given),
-            Err(fault) => Err(fault.refusal()),
-        }
+        kept_person: Option<&Person>,
+        name: &PersonName,
+    ) -> Result<Result<Vec<Proposal>, Refusal>, ReadFault> {
+        proposals_from(alloc, tx, kept_person, name, self.number)
     }
 }
 
-/// What waits for the person of this name, who may be the one who is remembered? Requests are
-/// collected into an `L`.
+/// What waits for the person? Requests are collected into an `L`.
 #[derive(Drop)]
-pub(crate) struct WaitingFor<'a, L> {
-    pub(crate) person: &'a Option<Person>,
-    pub(crate) name: &'a PersonName,
+pub(crate) struct WaitingFor<L> {
     pub(crate) list: PhantomData<L>,
 }
 
-impl<'a, L: RequestList + Drop> Question for WaitingFor<'a, L> {
-    type Answer = Result<Waits<L>, Refusal>;
+impl<L: RequestList + Drop> PersonQuestion for WaitingFor<L> {
+    type Given = Waits<L>;
 
-    ghost tells = { λ q given owner cs. IsOneOf q.person.now (people cs)
-        → IsGiven (waiting_for cs (callers.Person q.name.now)) given
+    ghost reading = { λ _. read.Waiting };
+
+    ghost gives = { λ _ name cs given. IsGiven (waiting_for cs (callers.Person name)) given
         (ShowsWaiting L.RequestList.holds cs) };
 
-    ghost bounds = { λ _ given. IfErr given IsReaderRefusal };
-
-    fn read<S: Alter>(
+    fn read_for<S: Alter>(
         &self,
         alloc: Global,
         tx: &mut Transaction<'_, S>,
-    ) -> Result<Result<Waits<L>, Refusal>, Refusal> {
-        match waiting_of(alloc, tx, self.person.as_ref(), self.name) {
-            Ok(given) => Ok(given),
-            Err(fault) => Err(fault.refusal()),
-        }
+        kept_person: Option<&Person>,
+        name: &PersonName,
+    ) -> Result<Result<Waits<L>, Refusal>, ReadFault> {
+        waiting_of(alloc, tx, kept_person, name)
     }
 }
 
-/// Which number tells the person of this name, who may be the one who is remembered, of changes?
+/// Which number tells the person of changes?
 #[derive(Drop)]
-pub(crate) struct ChangesFor<'a> {
-    pub(crate) person: &'a Option<Person>,
-    pub(crate) name: &'a PersonName,
-}
+pub(crate) struct ChangesFor;
 
-impl<'a> Question for ChangesFor<'a> {
-    type Answer = Result<u64, Refusal>;
+impl PersonQuestion for ChangesFor {
+    type Given = u64;
 
-    ghost tells = { λ q given owner cs. IsOneOf q.person.now (people cs)
-        → IsGiven (changes_for cs (callers.Person q.name.now)) given (λ due n. n ≡ due) };
+    ghost reading = { λ _. read.Changes };
 
-    ghost bounds = { λ _ given. IfErr given IsReaderRefusal };
+    ghost gives = { λ _ name cs given.
+        IsGiven (changes_for cs (callers.Person name)) given (λ due n. n ≡ due) };
 
-    fn read<S: Alter>(
+    fn read_for<S: Alter>(
         &self,
         alloc: Global,
         tx: &mut Transaction<'_, S>,
-    ) -> Result<Result<u64, Refusal>, Refusal> {
-        match changes_of(alloc, tx, self.person.as_ref(), self.name) {
-            Ok(given) => Ok(given),
-            Err(fault) => Err(fault.refusal()),
-        }
+        kept_person: Option<&Person>,
+        name: &PersonName,
+    ) -> Result<Result<u64, Refusal>, ReadFault> {
+        changes_of(alloc, tx, kept_person, name)
     }
 }

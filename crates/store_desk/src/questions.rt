@@ -1,23 +1,23 @@
 //! The questions that a desk is asked.
-ghost use Rattle.std.specs.Prelude.{◌≡◌, ⊤, filter, map, IfErr};
+ghost use Rattle.std.specs.Prelude.{◌≡◌, ⊤, filter, map};
 ghost use Rattle.store_counts.specs.Counts.{CountTables};
-ghost use Rattle.desk_history.specs.People.{has_token, people};
+ghost use Rattle.desk_history.specs.People.{has_token};
 ghost use Rattle.desk_history.specs.Shown.{GivesRequest, IsGiven, requests_for};
 ghost use Rattle.desk_history.specs.Shown.{proposals_for, shown_proposal};
 ghost use Rattle.desk_history.specs.Tables.{tables};
 ghost use Rattle.store_decision_rows.specs.lists.Lists.{HoldsNoOther};
-ghost use Rattle.store_reads.specs.People.{IsOneOf};
 ghost use Rattle.store_reads.specs.Reads.{listed};
 ghost use Rattle.desk_rules.specs.Shown.{Shows};
 ghost use Rattle.desk_rules.specs.Views.{ShowsLists, keys_of};
 ghost use Rattle.desk_exports.specs.Readings.{HoldsShown};
-ghost use Rattle.store_shown.specs.Telling.{IsOfficerRefusal, IsReaderRefusal, IsRequestRefusal};
+ghost use Rattle.desk_exports.specs.declared.reading.Reading.TheVariants as read;
 ghost use Rattle.store_decision_rows.specs.remembered.Current.{IsCurrent};
 ghost use Rattle.store_decision_rows.specs.sizes.Sizes.{AreRight};
 ghost use Rattle.desk_types.specs.declared.caller.Caller.TheVariants as callers;
 ghost use Rattle.store_decision_rows.specs.Named.{HoldsNoRowBeyond};
 
 use crate::asking::Question;
+use crate::person_questions::PersonQuestion;
 use base::{Digest, Refusal};
 use desk_exports::RequestList;
 use desk_rules::{CallRef, ListView, View};
@@ -27,7 +27,7 @@ use std::alloc::Global;
 use std::marker::PhantomData;
 use store_counts::{Counts, counts};
 use store_decision_rows::{KnownSizes, Remembered, list_view, view};
-use store_reads::person_of_token;
+use store_reads::{ReadFault, person_of_token};
 use store_shown::{proposals_of, request, requests_of};
 
 /// Who has the token of this SHA-256?
@@ -142,89 +142,74 @@ impl<'a> Question for RowsFor<'a> {
     }
 }
 
-/// What is the person of this name, who may be the one who is remembered, shown of the request of
-/// this number?
+/// What is the person shown of the request of this number?
 #[derive(Drop)]
-pub(crate) struct OneRequest<'a> {
-    pub(crate) person: &'a Option<Person>,
-    pub(crate) name: &'a PersonName,
+pub(crate) struct OneRequest {
     pub(crate) number: RequestNumber,
 }
 
-impl<'a> Question for OneRequest<'a> {
-    type Answer = Result<ShownRequest, Refusal>;
+impl PersonQuestion for OneRequest {
+    type Given = ShownRequest;
 
-    ghost tells = { λ q given owner cs. IsOneOf q.person.now (people cs)
-        → GivesRequest cs (callers.Person q.name.now) q.number given };
+    ghost reading = { λ q. read.Request q.number };
 
-    ghost bounds = { λ _ given. IfErr given IsRequestRefusal };
+    ghost gives = { λ q name cs given. GivesRequest cs (callers.Person name) q.number given };
 
-    fn read<S: Alter>(
+    fn read_for<S: Alter>(
         &self,
         alloc: Global,
         tx: &mut Transaction<'_, S>,
-    ) -> Result<Result<ShownRequest, Refusal>, Refusal> {
-        match request(alloc, tx, self.person.as_ref(), self.name, self.number) {
-            Ok(given) => Ok(given),
-            Err(fault) => Err(fault.refusal()),
-        }
+        kept_person: Option<&Person>,
+        name: &PersonName,
+    ) -> Result<Result<ShownRequest, Refusal>, ReadFault> {
+        request(alloc, tx, kept_person, name, self.number)
     }
 }
 
-/// Which requests is the person of this name, who may be the one who is remembered, shown? They are
-/// collected into an `L`.
+/// Which requests is the person shown? They are collected into an `L`.
 #[derive(Drop)]
-pub(crate) struct AllRequests<'a, L> {
-    pub(crate) person: &'a Option<Person>,
-    pub(crate) name: &'a PersonName,
+pub(crate) struct AllRequests<L> {
     pub(crate) list: PhantomData<L>,
 }
 
-impl<'a, L: RequestList + Drop> Question for AllRequests<'a, L> {
-    type Answer = Result<L, Refusal>;
+impl<L: RequestList + Drop> PersonQuestion for AllRequests<L> {
+    type Given = L;
 
-    ghost tells = { λ q given owner cs. IsOneOf q.person.now (people cs)
-        → IsGiven (requests_for cs (callers.Person q.name.now)) given
-        (HoldsShown L.RequestList.holds) };
+    ghost reading = { λ _. read.Requests };
 
-    ghost bounds = { λ _ given. IfErr given IsReaderRefusal };
+    ghost gives = { λ _ name cs given.
+        IsGiven (requests_for cs (callers.Person name)) given (HoldsShown L.RequestList.holds) };
 
-    fn read<S: Alter>(
+    fn read_for<S: Alter>(
         &self,
         alloc: Global,
         tx: &mut Transaction<'_, S>,
-    ) -> Result<Result<L, Refusal>, Refusal> {
-        match requests_of(alloc, tx, self.person.as_ref(), self.name) {
-            Ok(given) => Ok(given),
-            Err(fault) => Err(fault.refusal()),
-        }
+        kept_person: Option<&Person>,
+        name: &PersonName,
+    ) -> Result<Result<L, Refusal>, ReadFault> {
+        requests_of(alloc, tx, kept_person, name)
     }
 }
 
-/// Which proposals is the person of this name, who may be the one who is remembered, shown?
+/// Which proposals is the person shown?
 #[derive(Drop)]
-pub(crate) struct AllProposals<'a> {
-    pub(crate) person: &'a Option<Person>,
-    pub(crate) name: &'a PersonName,
-}
+pub(crate) struct AllProposals;
 
-impl<'a> Question for AllProposals<'a> {
-    type Answer = Result<Vec<Proposal>, Refusal>;
+impl PersonQuestion for AllProposals {
+    type Given = Vec<Proposal>;
 
-    ghost tells = { λ q given owner cs. IsOneOf q.person.now (people cs)
-        → IsGiven (proposals_for cs (callers.Person q.name.now)) given
+    ghost reading = { λ _. read.Proposals };
+
+    ghost gives = { λ _ name cs given. IsGiven (proposals_for cs (callers.Person name)) given
         (λ ps shown. shown.items ≡ map (shown_proposal cs) ps) };
 
-    ghost bounds = { λ _ given. IfErr given IsOfficerRefusal };
-
-    fn read<S: Alter>(
+    fn read_for<S: Alter>(
         &self,
         alloc: Global,
         tx: &mut Transaction<'_, S>,
-    ) -> Result<Result<Vec<Proposal>, Refusal>, Refusal> {
-        match proposals_of(alloc, tx, self.person.as_ref(), self.name) {
-            Ok(given) => Ok(given),
-            Err(fault) => Err(fault.refusal()),
-        }
+        kept_person: Option<&Person>,
+        name: &PersonName,
+    ) -> Result<Result<Vec<Proposal>, Refusal>, ReadFault> {
+        proposals_of(alloc, tx, kept_person, name)
     }
 }

@@ -6,19 +6,23 @@ ghost use Rattle.store_desk.specs.Showing.{GivesDue, IsReadingRefusal, IsReopene
 ghost use Rattle.store_desk.specs.Showing.{RefusesDue};
 
 use crate::desk::Desk;
+use crate::officer_questions::{AllPeople, MinutesFrom, OneProposal};
+use crate::part_questions::{ChangesFor, PartOfProposals, PartOfRequests, WaitingFor};
+use crate::questions::{AllProposals, AllRequests, OneRequest};
 use base::Refusal;
 use desk_exports::{Reading, RequestList, Shown};
 use desk_history::ShownPerson;
 use desk_types::{Caller, Person};
 use sqlite::Alter;
+use std::marker::PhantomData;
 
 impl<S: Alter + Drop> Desk<S> {
-    /// What the person is shown, each by the call of its name: `requests_of`, `requests_from`,
-    /// `request`, `proposals`, `proposals_from`, `proposal`, `impact`, `waiting`, `changes`, `export`
-    /// into memory, `report`, `minutes_from`, `people`; the person's own name and role by none.
-    /// Requests are collected into an `L`. The report is for officers: anybody else gets
-    /// `NotYourRole`, even from a desk that has to be opened again, and so gets everybody their own
-    /// name and role. Nothing is changed. Takes memory for what is shown.
+    /// What the person is shown, each as the call of its name gives it: `requests_of`,
+    /// `requests_from`, `request`, `proposals`, `proposals_from`, `proposal`, `impact`, `waiting`,
+    /// `changes`, `export` into memory, `report`, `minutes_from`, `people`; the person's own name and
+    /// role by none. Requests are collected into an `L`. The report is for officers: anybody else
+    /// gets `NotYourRole`, even from a desk that has to be opened again, and so gets everybody their
+    /// own name and role. Nothing is changed. Takes memory for what is shown.
     ///
     /// `NotYourRole`, `UnknownCaller`, `NoSuchRequest`, `NoSuchProposal`, `ProposalClosed`,
     /// `AlreadyRevoked`, `NotHigher`, `StampNotLater`, `Full`: as those calls say. `NoMemory`:
@@ -39,25 +43,30 @@ impl<S: Alter + Drop> Desk<S> {
             → IsShownTo L.RequestList.holds owner cs person reading result))
             × (self.new ≡ self.old) }
     {
-        let Person { name, role, .. } = person;
         match reading {
-            Reading::Requests => self.show_requests(&Caller::Person(name)),
-            Reading::RequestsFrom(number) => self.show_requests_from(&Caller::Person(name), number),
-            Reading::Request(number) => self.show_request(&Caller::Person(name), number),
-            Reading::Proposals => self.show_proposals(&Caller::Person(name)),
-            Reading::ProposalsFrom(number) => self.show_proposals_from(
-                &Caller::Person(name),
-                number,
-            ),
-            Reading::Proposal(number) => self.show_proposal(&Caller::Person(name), number),
-            Reading::Impact(number) => self.show_impact(&Caller::Person(name), number),
-            Reading::Waiting => self.show_waiting(&Caller::Person(name)),
-            Reading::Changes => self.show_changes(&Caller::Person(name)),
+            Reading::Requests => self.show(&person, &AllRequests::<L> { list: PhantomData }),
+            Reading::RequestsFrom(number) => {
+                let question: PartOfRequests<L> = PartOfRequests {
+                    number,
+                    list: PhantomData,
+                };
+                self.show(&person, &question)
+            }
+            Reading::Request(number) => self.show(&person, &OneRequest { number }),
+            Reading::Proposals => self.show(&person, &AllProposals),
+            Reading::ProposalsFrom(number) => self.show(&person, &PartOfProposals { number }),
+            Reading::Proposal(number) => self.show(&person, &OneProposal { number }),
+            Reading::Impact(number) => self.show_impact(&Caller::Person(person.name), number),
+            Reading::Waiting => self.show(&person, &WaitingFor::<L> { list: PhantomData }),
+            Reading::Changes => self.show(&person, &ChangesFor),
             Reading::Export(what) => self.show_export(what),
-            Reading::Report => self.show_report(role),
-            Reading::Minutes(from) => self.show_minutes(&Caller::Person(name), from),
-            Reading::Me => Ok(Shown::Me(ShownPerson { name, role })),
-            Reading::People => self.show_people(&Caller::Person(name)),
+            Reading::Report => self.show_report(person.role),
+            Reading::Minutes(number) => self.show(&person, &MinutesFrom { number }),
+            Reading::Me => Ok(Shown::Me(ShownPerson {
+                name: person.name,
+                role: person.role,
+            })),
+            Reading::People => self.show(&person, &AllPeople),
         }
     }
 }

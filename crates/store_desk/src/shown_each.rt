@@ -1,19 +1,16 @@
-//! What a person is shown of a desk, each reading by itself.
+//! What a person is shown of a desk beside answers to questions: an impact, exports, the report.
 ghost use Rattle.std.specs.Prelude.{◌≡◌, ◌≢◌, ◌⊎◌, Err, IfErr, IfOk, Ok, true};
 ghost use Rattle.std.specs.Prelude.{string_bytes};
 ghost use Rattle.sqlite.specs.Held.{state};
 ghost use Rattle.sqlite.specs.State.{HasCleanDisk};
 ghost use Rattle.desk_exports.specs.Exports.{exported};
-ghost use Rattle.desk_exports.specs.MinutesShown.{minutes_for};
 ghost use Rattle.desk_exports.specs.Published.{export_of};
 ghost use Rattle.desk_exports.specs.Readings as told;
 ghost use Rattle.desk_exports.specs.Reports as reports;
 ghost use Rattle.desk_exports.specs.declared.reading.Reading.TheVariants as read;
 ghost use Rattle.desk_history.specs.Calls.{History};
 ghost use Rattle.desk_history.specs.ImpactShown.{impact_for};
-ghost use Rattle.desk_history.specs.PeopleShown.{people_for};
-ghost use Rattle.desk_history.specs.ProposalShown.{proposal_for};
-ghost use Rattle.desk_history.specs.Shown.{IsGiven, proposals_for, request_for, requests_for};
+ghost use Rattle.desk_history.specs.Shown.{IsGiven};
 ghost use Rattle.store_reads.specs.Failures.{IsFailure};
 ghost use Rattle.store_desk.specs.Desks.{ForEachShown, ReadsDesk};
 ghost use Rattle.store_desk.specs.Showing.{GivesDue, IsReadingRefusal, IsReopened, ReadsOnly};
@@ -21,8 +18,8 @@ ghost use Rattle.store_desk.specs.Showing.{RefusesDue};
 
 use crate::desk::Desk;
 use base::Refusal;
-use desk_exports::{Export, Octets, Published, RequestList, Shown, ShownPeople, ShownProposals};
-use desk_types::{Caller, ProposalNumber, RequestNumber, Role};
+use desk_exports::{Export, Octets, Published, RequestList, Shown};
+use desk_types::{Caller, ProposalNumber, Role};
 use sqlite::Alter;
 use store_counts::report_is_the_history;
 use store_shown::is_officer;
@@ -40,94 +37,6 @@ fn into_memory(refusal: Refusal) -> Refusal
 }
 
 impl<S: Alter + Drop> Desk<S> {
-    /// The requests that the caller is shown.
-    pub(crate) fn show_requests<L: RequestList + Drop>(
-        &mut self,
-        caller: &Caller,
-    ) -> Result<Shown<L>, Refusal>
-        ensures shown { GivesDue S.Store self.old self.new result (λ _ cs given.
-            IsGiven (requests_for cs caller.now) given (told.GivesRequests L.RequestList.holds)) }
-        ensures refused { RefusesDue S.Store self.old self.new result (λ _ cs given.
-            IsGiven (requests_for cs caller.now) given (told.GivesRequests L.RequestList.holds)) }
-        ensures reads { ReadsOnly S.Store (IsReadingRefusal read.Requests)
-            self.old self.new result }
-        ensures closed { self.old.needs_reopening ≡ true
-            → IsReopened result × (self.new ≡ self.old) }
-    {
-        match self.requests_of::<L>(caller) {
-            Ok(requests) => Ok(Shown::Requests(requests)),
-            Err(refusal) => Err(refusal),
-        }
-    }
-
-    /// The request of this number.
-    pub(crate) fn show_request<L: RequestList + Drop>(
-        &mut self,
-        caller: &Caller,
-        number: RequestNumber,
-    ) -> Result<Shown<L>, Refusal>
-        ensures shown { GivesDue S.Store self.old self.new result (λ _ cs given.
-            IsGiven (request_for cs caller.now number) given
-            (told.GivesRequest L.RequestList.holds)) }
-        ensures refused { RefusesDue S.Store self.old self.new result (λ _ cs given.
-            IsGiven (request_for cs caller.now number) given
-            (told.GivesRequest L.RequestList.holds)) }
-        ensures reads { ReadsOnly S.Store (IsReadingRefusal (read.Request number))
-            self.old self.new result }
-        ensures closed { self.old.needs_reopening ≡ true
-            → IsReopened result × (self.new ≡ self.old) }
-    {
-        match self.request(caller, number) {
-            Ok(request) => Ok(Shown::Request(request)),
-            Err(refusal) => Err(refusal),
-        }
-    }
-
-    /// The proposals.
-    pub(crate) fn show_proposals<L: RequestList + Drop>(
-        &mut self,
-        caller: &Caller,
-    ) -> Result<Shown<L>, Refusal>
-        ensures shown { GivesDue S.Store self.old self.new result (λ _ cs given.
-            IsGiven (proposals_for cs caller.now) given
-            (told.GivesProposals L.RequestList.holds cs)) }
-        ensures refused { RefusesDue S.Store self.old self.new result (λ _ cs given.
-            IsGiven (proposals_for cs caller.now) given
-            (told.GivesProposals L.RequestList.holds cs)) }
-        ensures reads { ReadsOnly S.Store (IsReadingRefusal read.Proposals)
-            self.old self.new result }
-        ensures closed { self.old.needs_reopening ≡ true
-            → IsReopened result × (self.new ≡ self.old) }
-    {
-        match self.proposals(caller) {
-            Ok(proposals) => Ok(Shown::Proposals(ShownProposals::new(proposals))),
-            Err(refusal) => Err(refusal),
-        }
-    }
-
-    /// The proposal of this number.
-    pub(crate) fn show_proposal<L: RequestList + Drop>(
-        &mut self,
-        caller: &Caller,
-        number: ProposalNumber,
-    ) -> Result<Shown<L>, Refusal>
-        ensures shown { GivesDue S.Store self.old self.new result (λ _ cs given.
-            IsGiven (proposal_for cs caller.now number) given
-            (told.GivesProposal L.RequestList.holds)) }
-        ensures refused { RefusesDue S.Store self.old self.new result (λ _ cs given.
-            IsGiven (proposal_for cs caller.now number) given
-            (told.GivesProposal L.RequestList.holds)) }
-        ensures reads { ReadsOnly S.Store (IsReadingRefusal (read.Proposal number))
-            self.old self.new result }
-        ensures closed { self.old.needs_reopening ≡ true
-            → IsReopened result × (self.new ≡ self.old) }
-    {
-        match self.proposal(caller, number) {
-            Ok(proposal) => Ok(Shown::Proposal(proposal)),
-            Err(refusal) => Err(refusal),
-        }
-    }
-
     /// The impact of the proposal of this number.
     pub(crate) fn show_impact<L: RequestList + Drop>(
         &mut self,
@@ -227,48 +136,6 @@ impl<S: Alter + Drop> Desk<S> {
         }
         match self.report() {
             Ok(text) => Ok(Shown::Report(Octets::new(text.into_bytes()))),
-            Err(refusal) => Err(refusal),
-        }
-    }
-
-    /// The lines of the minutes from this number on.
-    pub(crate) fn show_minutes<L: RequestList + Drop>(
-        &mut self,
-        caller: &Caller,
-        from: u64,
-    ) -> Result<Shown<L>, Refusal>
-        ensures shown { GivesDue S.Store self.old self.new result (λ _ cs given.
-            IsGiven (minutes_for cs caller.now from) given
-            (told.GivesMinutes L.RequestList.holds)) }
-        ensures refused { RefusesDue S.Store self.old self.new result (λ _ cs given.
-            IsGiven (minutes_for cs caller.now from) given
-            (told.GivesMinutes L.RequestList.holds)) }
-        ensures reads { ReadsOnly S.Store (IsReadingRefusal (read.Minutes from))
-            self.old self.new result }
-        ensures closed { self.old.needs_reopening ≡ true
-            → IsReopened result × (self.new ≡ self.old) }
-    {
-        match self.minutes_from(caller, from) {
-            Ok(lines) => Ok(Shown::Minutes(Octets::new(lines))),
-            Err(refusal) => Err(refusal),
-        }
-    }
-
-    /// The people.
-    pub(crate) fn show_people<L: RequestList + Drop>(
-        &mut self,
-        caller: &Caller,
-    ) -> Result<Shown<L>, Refusal>
-        ensures shown { GivesDue S.Store self.old self.new result (λ _ cs given.
-            IsGiven (people_for cs caller.now) given (told.GivesPeople L.RequestList.holds)) }
-        ensures refused { RefusesDue S.Store self.old self.new result (λ _ cs given.
-            IsGiven (people_for cs caller.now) given (told.GivesPeople L.RequestList.holds)) }
-        ensures reads { ReadsOnly S.Store (IsReadingRefusal read.People) self.old self.new result }
-        ensures closed { self.old.needs_reopening ≡ true
-            → IsReopened result × (self.new ≡ self.old) }
-    {
-        match self.people(caller) {
-            Ok(people) => Ok(Shown::People(ShownPeople::new(people))),
             Err(refusal) => Err(refusal),
         }
     }

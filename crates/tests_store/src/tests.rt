@@ -1,7 +1,7 @@
 //! Desks over stores in memory, played by the lines of scripts.
 use base::{Digest, Guid, Refusal};
 use desk_rules::{View, decide};
-use desk_types::{Call, Caller, Facts, Person, Proposal, Reply, ShownRequest, reply_text};
+use desk_types::{Call, Facts, Person, PersonName, Proposal, Reply, ShownRequest, reply_text};
 use itoa::Buffer;
 use sbat::Component;
 use sqlite::{Alter, Connection, MemStore};

@@ -62,6 +62,11 @@ impl<'a> Words<'a> {
         Caller::parse(self.alloc, self.text()?.as_bytes()).ok()
     }
 
+    /// A person's name.
+    pub fn name(&mut self) -> Option<PersonName> {
+        PersonName::parse(self.alloc, self.text()?.as_bytes()).ok()
+    }
+
     /// A component's name, and its generation.
     fn component(&mut self) -> Option<Component> {
         let name = ComponentName::parse(self.alloc, self.text()?.as_bytes()).ok()?;
@@ -105,7 +110,7 @@ impl<'a> Words<'a> {
     }
 
     fn person(&mut self) -> Option<Command> {
-        let name = PersonName::parse(self.alloc, self.text()?.as_bytes()).ok()?;
+        let name = self.name()?;
         let role = Role::parse(self.text()?.as_bytes())?;
         let token = self.digest()?;
         Some(Command::AddPerson(Person { name, role, token }))

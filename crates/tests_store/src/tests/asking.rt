@@ -88,14 +88,14 @@ fn asked<S: Alter + Drop>(alloc: Global, desk: &mut Desk<S>, given: &str) -> Opt
     both(alloc, desk, &call)
 }
 
-/// All requests that the caller is shown.
+/// All requests that the person is shown.
 fn all_shown<S: Alter + Drop>(
     desk: &mut Desk<S>,
     words: &mut Words,
     line: &mut Line,
 ) -> Option<()> {
-    let caller = words.caller()?;
-    match desk.requests_of::<Vec<ShownRequest>>(&caller) {
+    let name = words.name()?;
+    match desk.requests_of::<Vec<ShownRequest>>(&name) {
         Ok(requests) => put_requests(line, &requests).ok(),
         Err(refusal) => line.put(refusal.name()).ok(),
     }

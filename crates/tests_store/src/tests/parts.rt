@@ -4,10 +4,10 @@ use super::line::Line;
 use super::*;
 
 /// The person who is named, and a number.
-fn named(words: &mut Words) -> Option<(Caller, u64)> {
-    let caller = words.caller()?;
+fn named(words: &mut Words) -> Option<(PersonName, u64)> {
+    let name = words.name()?;
     let number = words.number()?;
-    Some((caller, number))
+    Some((name, number))
 }
 
 /// How many requests there are, and the numbers of the first and the last.
@@ -37,8 +37,8 @@ pub(super) fn requests_from<S: Alter + Drop>(
     words: &mut Words,
     line: &mut Line,
 ) -> Option<()> {
-    let (caller, number) = named(words)?;
-    match desk.requests_from::<Vec<ShownRequest>>(&caller, number) {
+    let (name, number) = named(words)?;
+    match desk.requests_from::<Vec<ShownRequest>>(&name, number) {
         Ok(requests) => put_requests(line, &requests),
         Err(refusal) => line.put(refusal.name()).ok(),
     }
@@ -50,8 +50,8 @@ pub(super) fn proposals_from<S: Alter + Drop>(
     words: &mut Words,
     line: &mut Line,
 ) -> Option<()> {
-    let (caller, number) = named(words)?;
-    match desk.proposals_from(&caller, number) {
+    let (name, number) = named(words)?;
+    match desk.proposals_from(&name, number) {
         Ok(proposals) => put_proposals(line, &proposals),
         Err(refusal) => line.put(refusal.name()).ok(),
     }
@@ -72,8 +72,8 @@ pub(super) fn waiting<S: Alter + Drop>(
     words: &mut Words,
     line: &mut Line,
 ) -> Option<()> {
-    let caller = words.caller()?;
-    match desk.waiting::<Vec<ShownRequest>>(&caller) {
+    let name = words.name()?;
+    match desk.waiting::<Vec<ShownRequest>>(&name) {
         Ok(waits) => put_waits(line, &waits),
         Err(refusal) => line.put(refusal.name()).ok(),
     }
@@ -85,8 +85,8 @@ pub(super) fn changes<S: Alter + Drop>(
     words: &mut Words,
     line: &mut Line,
 ) -> Option<()> {
-    let caller = words.caller()?;
-    match desk.changes(&caller) {
+    let name = words.name()?;
+    match desk.changes(&name) {
         Ok(number) => line.number(number).ok(),
         Err(refusal) => line.put(refusal.name()).ok(),
     }

@@ -122,11 +122,9 @@ console p7 add abe submitter 7 : added abe
 waits ann : and
 waits olga : and
 waits eve : UnknownCaller
-waits console : NotYourRole
 changes ann : 0
 changes rita : 7
 changes eve : UnknownCaller
-changes console : NotYourRole
 ann a1 submit shim 160 160 0 0 : submitted 1
 rita r1 submit shim 161 161 0 0 : submitted 2
 abe b1 submit shim 162 162 0 0 : submitted 3
@@ -186,7 +184,6 @@ proposals otto 4 :
 proposals otto 18446744073709551615 : 
 proposals ann 1 : NotYourRole
 proposals eve 1 : UnknownCaller
-proposals console 1 : NotYourRole
 requests ann 0 : 2 1 4
 requests ann 2 : 1 4 4
 requests abe 1 : 1 3 3
@@ -194,8 +191,7 @@ requests abe 4 : 0
 requests sid 1 : 4 1 4
 requests olga 3 : 2 3 4
 requests olga 5 : 0
-requests eve 1 : UnknownCaller
-requests console 1 : NotYourRole";
+requests eve 1 : UnknownCaller";
 
 /// A part holds 1,000 requests: the others stand in the next one.
 pub(super) const PARTS: &str = "\

@@ -1,34 +1,13 @@
-use Rattle.std.proofs.Common.{◌≡◌, Ok, Err, rules}
+use Rattle.std.proofs.Common.{◌≡◌}
 use Rattle.desk_exports.specs.Changes.{changes_for}
-use Rattle.desk_history.specs.Shown.{IsGiven}
-use Rattle.store_reads.specs.Failures.{IsFailure}
-use Rattle.store_desk.proofs.RefusalLemmas.{reader_told}
-use Rattle.store_desk.proofs.PersonLemmas.{asked, reads_taken}
-use Rattle.store_desk.proofs.OfficerLemmas.{items_ok}
-use Rattle.store_desk.proofs.ShowingLemmas.{given_err}
+use Rattle.desk_types.specs.declared.caller.Caller.TheVariants as callers
+use Rattle.store_desk.proofs.ShowingLemmas.{items_ok, shown_err}
 use Rattle.store_desk.proofs.desk.Desk.changes.Goals as goal
 
-pub returns-in-Ok-clause-shown : goal.returns-in-Ok-clause-shown
-returns-in-Ok-clause-shown g c clean =
-    let old = c.args.self.now in
-    let taken = c.take-person in
-    items_ok g.S.Store old (λ cs. changes_for cs c.args.caller.now) (λ v. v) c.in-Ok.given
-    (asked g.S.Store old taken.ensures.after taken.ensures.value c.in-Person.is (λ who owner cs. IsGiven (changes_for cs who) c.in-Ok.given (λ due n. n ≡ due)) (c.in-Ok.ensures.shown clean))
+pub returns-clause-shown : goal.returns-clause-shown
+returns-clause-shown g c clean =
+    items_ok g.S.Store c.args.self.now (λ cs. changes_for cs (callers.Person c.args.name.now)) (λ v. v) c.answer_person.result (c.answer_person.ensures.shown clean)
 
-pub returns-in-Ok-clause-refused : goal.returns-in-Ok-clause-refused
-returns-in-Ok-clause-refused g c clean =
-    let old = c.args.self.now in
-    let taken = c.take-person in
-    given_err g.S.Store old (λ cs. changes_for cs c.args.caller.now) (λ cs due n. n ≡ due) c.in-Ok.given
-    (asked g.S.Store old taken.ensures.after taken.ensures.value c.in-Person.is (λ who owner cs. IsGiven (changes_for cs who) c.in-Ok.given (λ due n. n ≡ due)) (c.in-Ok.ensures.shown clean))
-
-pub returns-in-Ok-clause-reads : goal.returns-in-Ok-clause-reads
-returns-in-Ok-clause-reads g c =
-    let it = reads_taken g.S.Store IsFailure c.args.self.now c.answer_question.new.self c.take-person.new.self c.take-person.ensures.after (Ok c.in-Ok.given) c.if-self.false c.in-Ok.ensures.reads in
-    let bound = reader_told c.in-Ok.given c.in-Ok.ensures.bound in
-    search (rules, it, bound)
-
-pub returns-clause-reads : goal.returns-clause-reads
-returns-clause-reads g c =
-    let it = reads_taken g.S.Store IsFailure c.args.self.now c.answer_question.new.self c.take-person.new.self c.take-person.ensures.after (Err c.in-Err.failure) c.if-self.false c.in-Err.ensures.reads in
-    search (rules, it)
+pub returns-clause-refused : goal.returns-clause-refused
+returns-clause-refused g c clean =
+    shown_err g.S.Store c.args.self.now (λ cs. changes_for cs (callers.Person c.args.name.now)) (λ cs due n. n ≡ due) c.answer_person.result (c.answer_person.ensures.refused clean)

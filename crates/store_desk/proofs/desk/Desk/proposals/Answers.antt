@@ -1,32 +1,13 @@
-use Rattle.std.proofs.Common.{◌≡◌, map, Ok, Err, rules}
-use Rattle.desk_history.specs.Shown.{IsGiven, proposals_for, shown_proposal}
-use Rattle.store_reads.specs.Failures.{IsFailure}
-use Rattle.store_desk.proofs.RefusalLemmas.{officer_told}
-use Rattle.store_desk.proofs.PersonLemmas.{asked, reads_taken}
-use Rattle.store_desk.proofs.ShowingLemmas.{given_err, given_ok}
+use Rattle.std.proofs.Common.{◌≡◌, map}
+use Rattle.desk_history.specs.Shown.{proposals_for, shown_proposal}
+use Rattle.desk_types.specs.declared.caller.Caller.TheVariants as callers
+use Rattle.store_desk.proofs.ShowingLemmas.{shown_err, shown_ok}
 use Rattle.store_desk.proofs.desk.Desk.proposals.Goals as goal
 
-pub returns-in-Ok-clause-shown : goal.returns-in-Ok-clause-shown
-returns-in-Ok-clause-shown g c clean =
-    let old = c.args.self.now in
-    let taken = c.take-person in
-    given_ok g.S.Store old (λ cs. proposals_for cs c.args.caller.now) (λ cs ps shown. shown.items ≡ map (shown_proposal cs) ps) c.in-Ok.given
-    (asked g.S.Store old taken.ensures.after taken.ensures.value c.in-Person.is (λ who owner cs. IsGiven (proposals_for cs who) c.in-Ok.given (λ ps shown. shown.items ≡ map (shown_proposal cs) ps)) (c.in-Ok.ensures.shown clean))
+pub returns-clause-shown : goal.returns-clause-shown
+returns-clause-shown g c clean =
+    shown_ok g.S.Store c.args.self.now (λ cs. proposals_for cs (callers.Person c.args.name.now)) (λ cs ps shown. shown.items ≡ map (shown_proposal cs) ps) c.answer_person.result (c.answer_person.ensures.shown clean)
 
-pub returns-in-Ok-clause-refused : goal.returns-in-Ok-clause-refused
-returns-in-Ok-clause-refused g c clean =
-    let old = c.args.self.now in
-    let taken = c.take-person in
-    given_err g.S.Store old (λ cs. proposals_for cs c.args.caller.now) (λ cs ps shown. shown.items ≡ map (shown_proposal cs) ps) c.in-Ok.given
-    (asked g.S.Store old taken.ensures.after taken.ensures.value c.in-Person.is (λ who owner cs. IsGiven (proposals_for cs who) c.in-Ok.given (λ ps shown. shown.items ≡ map (shown_proposal cs) ps)) (c.in-Ok.ensures.shown clean))
-
-pub returns-in-Ok-clause-reads : goal.returns-in-Ok-clause-reads
-returns-in-Ok-clause-reads g c =
-    let it = reads_taken g.S.Store IsFailure c.args.self.now c.answer_question.new.self c.take-person.new.self c.take-person.ensures.after (Ok c.in-Ok.given) c.if-self.false c.in-Ok.ensures.reads in
-    let bound = officer_told c.in-Ok.given c.in-Ok.ensures.bound in
-    search (rules, it, bound)
-
-pub returns-clause-reads : goal.returns-clause-reads
-returns-clause-reads g c =
-    let it = reads_taken g.S.Store IsFailure c.args.self.now c.answer_question.new.self c.take-person.new.self c.take-person.ensures.after (Err c.in-Err.failure) c.if-self.false c.in-Err.ensures.reads in
-    search (rules, it)
+pub returns-clause-refused : goal.returns-clause-refused
+returns-clause-refused g c clean =
+    shown_err g.S.Store c.args.self.now (λ cs. proposals_for cs (callers.Person c.args.name.now)) (λ cs ps shown. shown.items ≡ map (shown_proposal cs) ps) c.answer_person.result (c.answer_person.ensures.refused clean)

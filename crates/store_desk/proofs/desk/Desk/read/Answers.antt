@@ -7,43 +7,43 @@ use Rattle.store_desk.proofs.desk.Desk.read.Goals as goal
 
 pub returns-in-Requests-clause-shown : goal.returns-in-Requests-clause-shown
 returns-in-Requests-clause-shown g c =
-    gives_for g.S.Store c.args.self.now c.show_requests.new.self c.show_requests.result (λ z owner cs. IsShownTo g.L.RequestList.holds owner cs c.args.person z) c.args.reading _ c.in-Requests.is
-    c.show_requests.ensures.shown
+    gives_for g.S.Store c.args.self.now c.show.new.self c.show.result (λ z owner cs. IsShownTo g.L.RequestList.holds owner cs c.args.person z) c.args.reading _ c.in-Requests.is
+    c.show.ensures.shown
 
 pub returns-in-Requests-clause-refused : goal.returns-in-Requests-clause-refused
 returns-in-Requests-clause-refused g c =
-    refuses_for g.S.Store c.args.self.now c.show_requests.new.self c.show_requests.result (λ z owner cs. IsShownTo g.L.RequestList.holds owner cs c.args.person z) c.args.reading _ c.in-Requests.is
-    c.show_requests.ensures.refused
+    refuses_for g.S.Store c.args.self.now c.show.new.self c.show.result (λ z owner cs. IsShownTo g.L.RequestList.holds owner cs c.args.person z) c.args.reading _ c.in-Requests.is
+    c.show.ensures.refused
 
 pub returns-in-Request-clause-shown : goal.returns-in-Request-clause-shown
 returns-in-Request-clause-shown g c =
-    gives_for g.S.Store c.args.self.now c.show_request.new.self c.show_request.result (λ z owner cs. IsShownTo g.L.RequestList.holds owner cs c.args.person z) c.args.reading _ c.in-Request.is
-    c.show_request.ensures.shown
+    gives_for g.S.Store c.args.self.now c.show-in-Request.new.self c.show-in-Request.result (λ z owner cs. IsShownTo g.L.RequestList.holds owner cs c.args.person z) c.args.reading _ c.in-Request.is
+    c.show-in-Request.ensures.shown
 
 pub returns-in-Request-clause-refused : goal.returns-in-Request-clause-refused
 returns-in-Request-clause-refused g c =
-    refuses_for g.S.Store c.args.self.now c.show_request.new.self c.show_request.result (λ z owner cs. IsShownTo g.L.RequestList.holds owner cs c.args.person z) c.args.reading _ c.in-Request.is
-    c.show_request.ensures.refused
+    refuses_for g.S.Store c.args.self.now c.show-in-Request.new.self c.show-in-Request.result (λ z owner cs. IsShownTo g.L.RequestList.holds owner cs c.args.person z) c.args.reading _ c.in-Request.is
+    c.show-in-Request.ensures.refused
 
 pub returns-in-Proposals-clause-shown : goal.returns-in-Proposals-clause-shown
 returns-in-Proposals-clause-shown g c =
-    gives_for g.S.Store c.args.self.now c.show_proposals.new.self c.show_proposals.result (λ z owner cs. IsShownTo g.L.RequestList.holds owner cs c.args.person z) c.args.reading _ c.in-Proposals.is
-    c.show_proposals.ensures.shown
+    gives_for g.S.Store c.args.self.now c.show-in-Proposals.new.self c.show-in-Proposals.result (λ z owner cs. IsShownTo g.L.RequestList.holds owner cs c.args.person z) c.args.reading _ c.in-Proposals.is
+    c.show-in-Proposals.ensures.shown
 
 pub returns-in-Proposals-clause-refused : goal.returns-in-Proposals-clause-refused
 returns-in-Proposals-clause-refused g c =
-    refuses_for g.S.Store c.args.self.now c.show_proposals.new.self c.show_proposals.result (λ z owner cs. IsShownTo g.L.RequestList.holds owner cs c.args.person z) c.args.reading _ c.in-Proposals.is
-    c.show_proposals.ensures.refused
+    refuses_for g.S.Store c.args.self.now c.show-in-Proposals.new.self c.show-in-Proposals.result (λ z owner cs. IsShownTo g.L.RequestList.holds owner cs c.args.person z) c.args.reading _ c.in-Proposals.is
+    c.show-in-Proposals.ensures.refused
 
 pub returns-in-Proposal-clause-shown : goal.returns-in-Proposal-clause-shown
 returns-in-Proposal-clause-shown g c =
-    gives_for g.S.Store c.args.self.now c.show_proposal.new.self c.show_proposal.result (λ z owner cs. IsShownTo g.L.RequestList.holds owner cs c.args.person z) c.args.reading _ c.in-Proposal.is
-    c.show_proposal.ensures.shown
+    gives_for g.S.Store c.args.self.now c.show-in-Proposal.new.self c.show-in-Proposal.result (λ z owner cs. IsShownTo g.L.RequestList.holds owner cs c.args.person z) c.args.reading _ c.in-Proposal.is
+    c.show-in-Proposal.ensures.shown
 
 pub returns-in-Proposal-clause-refused : goal.returns-in-Proposal-clause-refused
 returns-in-Proposal-clause-refused g c =
-    refuses_for g.S.Store c.args.self.now c.show_proposal.new.self c.show_proposal.result (λ z owner cs. IsShownTo g.L.RequestList.holds owner cs c.args.person z) c.args.reading _ c.in-Proposal.is
-    c.show_proposal.ensures.refused
+    refuses_for g.S.Store c.args.self.now c.show-in-Proposal.new.self c.show-in-Proposal.result (λ z owner cs. IsShownTo g.L.RequestList.holds owner cs c.args.person z) c.args.reading _ c.in-Proposal.is
+    c.show-in-Proposal.ensures.refused
 
 pub returns-in-Impact-clause-shown : goal.returns-in-Impact-clause-shown
 returns-in-Impact-clause-shown g c =
@@ -57,43 +57,43 @@ returns-in-Impact-clause-refused g c =
 
 pub returns-in-RequestsFrom-clause-shown : goal.returns-in-RequestsFrom-clause-shown
 returns-in-RequestsFrom-clause-shown g c =
-    gives_for g.S.Store c.args.self.now c.show_requests_from.new.self c.show_requests_from.result (λ z owner cs. IsShownTo g.L.RequestList.holds owner cs c.args.person z) c.args.reading _ c.in-RequestsFrom.is
-    c.show_requests_from.ensures.shown
+    gives_for g.S.Store c.args.self.now c.show-in-RequestsFrom.new.self c.show-in-RequestsFrom.result (λ z owner cs. IsShownTo g.L.RequestList.holds owner cs c.args.person z) c.args.reading _ c.in-RequestsFrom.is
+    c.show-in-RequestsFrom.ensures.shown
 
 pub returns-in-RequestsFrom-clause-refused : goal.returns-in-RequestsFrom-clause-refused
 returns-in-RequestsFrom-clause-refused g c =
-    refuses_for g.S.Store c.args.self.now c.show_requests_from.new.self c.show_requests_from.result (λ z owner cs. IsShownTo g.L.RequestList.holds owner cs c.args.person z) c.args.reading _ c.in-RequestsFrom.is
-    c.show_requests_from.ensures.refused
+    refuses_for g.S.Store c.args.self.now c.show-in-RequestsFrom.new.self c.show-in-RequestsFrom.result (λ z owner cs. IsShownTo g.L.RequestList.holds owner cs c.args.person z) c.args.reading _ c.in-RequestsFrom.is
+    c.show-in-RequestsFrom.ensures.refused
 
 pub returns-in-ProposalsFrom-clause-shown : goal.returns-in-ProposalsFrom-clause-shown
 returns-in-ProposalsFrom-clause-shown g c =
-    gives_for g.S.Store c.args.self.now c.show_proposals_from.new.self c.show_proposals_from.result (λ z owner cs. IsShownTo g.L.RequestList.holds owner cs c.args.person z) c.args.reading _ c.in-ProposalsFrom.is
-    c.show_proposals_from.ensures.shown
+    gives_for g.S.Store c.args.self.now c.show-in-ProposalsFrom.new.self c.show-in-ProposalsFrom.result (λ z owner cs. IsShownTo g.L.RequestList.holds owner cs c.args.person z) c.args.reading _ c.in-ProposalsFrom.is
+    c.show-in-ProposalsFrom.ensures.shown
 
 pub returns-in-ProposalsFrom-clause-refused : goal.returns-in-ProposalsFrom-clause-refused
 returns-in-ProposalsFrom-clause-refused g c =
-    refuses_for g.S.Store c.args.self.now c.show_proposals_from.new.self c.show_proposals_from.result (λ z owner cs. IsShownTo g.L.RequestList.holds owner cs c.args.person z) c.args.reading _ c.in-ProposalsFrom.is
-    c.show_proposals_from.ensures.refused
+    refuses_for g.S.Store c.args.self.now c.show-in-ProposalsFrom.new.self c.show-in-ProposalsFrom.result (λ z owner cs. IsShownTo g.L.RequestList.holds owner cs c.args.person z) c.args.reading _ c.in-ProposalsFrom.is
+    c.show-in-ProposalsFrom.ensures.refused
 
 pub returns-in-Waiting-clause-shown : goal.returns-in-Waiting-clause-shown
 returns-in-Waiting-clause-shown g c =
-    gives_for g.S.Store c.args.self.now c.show_waiting.new.self c.show_waiting.result (λ z owner cs. IsShownTo g.L.RequestList.holds owner cs c.args.person z) c.args.reading _ c.in-Waiting.is
-    c.show_waiting.ensures.shown
+    gives_for g.S.Store c.args.self.now c.show-in-Waiting.new.self c.show-in-Waiting.result (λ z owner cs. IsShownTo g.L.RequestList.holds owner cs c.args.person z) c.args.reading _ c.in-Waiting.is
+    c.show-in-Waiting.ensures.shown
 
 pub returns-in-Waiting-clause-refused : goal.returns-in-Waiting-clause-refused
 returns-in-Waiting-clause-refused g c =
-    refuses_for g.S.Store c.args.self.now c.show_waiting.new.self c.show_waiting.result (λ z owner cs. IsShownTo g.L.RequestList.holds owner cs c.args.person z) c.args.reading _ c.in-Waiting.is
-    c.show_waiting.ensures.refused
+    refuses_for g.S.Store c.args.self.now c.show-in-Waiting.new.self c.show-in-Waiting.result (λ z owner cs. IsShownTo g.L.RequestList.holds owner cs c.args.person z) c.args.reading _ c.in-Waiting.is
+    c.show-in-Waiting.ensures.refused
 
 pub returns-in-Changes-clause-shown : goal.returns-in-Changes-clause-shown
 returns-in-Changes-clause-shown g c =
-    gives_for g.S.Store c.args.self.now c.show_changes.new.self c.show_changes.result (λ z owner cs. IsShownTo g.L.RequestList.holds owner cs c.args.person z) c.args.reading _ c.in-Changes.is
-    c.show_changes.ensures.shown
+    gives_for g.S.Store c.args.self.now c.show-in-Changes.new.self c.show-in-Changes.result (λ z owner cs. IsShownTo g.L.RequestList.holds owner cs c.args.person z) c.args.reading _ c.in-Changes.is
+    c.show-in-Changes.ensures.shown
 
 pub returns-in-Changes-clause-refused : goal.returns-in-Changes-clause-refused
 returns-in-Changes-clause-refused g c =
-    refuses_for g.S.Store c.args.self.now c.show_changes.new.self c.show_changes.result (λ z owner cs. IsShownTo g.L.RequestList.holds owner cs c.args.person z) c.args.reading _ c.in-Changes.is
-    c.show_changes.ensures.refused
+    refuses_for g.S.Store c.args.self.now c.show-in-Changes.new.self c.show-in-Changes.result (λ z owner cs. IsShownTo g.L.RequestList.holds owner cs c.args.person z) c.args.reading _ c.in-Changes.is
+    c.show-in-Changes.ensures.refused
 
 pub returns-in-Export-clause-shown : goal.returns-in-Export-clause-shown
 returns-in-Export-clause-shown g c =
@@ -117,23 +117,23 @@ returns-in-Report-clause-refused g c =
 
 pub returns-in-Minutes-clause-shown : goal.returns-in-Minutes-clause-shown
 returns-in-Minutes-clause-shown g c =
-    gives_for g.S.Store c.args.self.now c.show_minutes.new.self c.show_minutes.result (λ z owner cs. IsShownTo g.L.RequestList.holds owner cs c.args.person z) c.args.reading _ c.in-Minutes.is
-    c.show_minutes.ensures.shown
+    gives_for g.S.Store c.args.self.now c.show-in-Minutes.new.self c.show-in-Minutes.result (λ z owner cs. IsShownTo g.L.RequestList.holds owner cs c.args.person z) c.args.reading _ c.in-Minutes.is
+    c.show-in-Minutes.ensures.shown
 
 pub returns-in-Minutes-clause-refused : goal.returns-in-Minutes-clause-refused
 returns-in-Minutes-clause-refused g c =
-    refuses_for g.S.Store c.args.self.now c.show_minutes.new.self c.show_minutes.result (λ z owner cs. IsShownTo g.L.RequestList.holds owner cs c.args.person z) c.args.reading _ c.in-Minutes.is
-    c.show_minutes.ensures.refused
+    refuses_for g.S.Store c.args.self.now c.show-in-Minutes.new.self c.show-in-Minutes.result (λ z owner cs. IsShownTo g.L.RequestList.holds owner cs c.args.person z) c.args.reading _ c.in-Minutes.is
+    c.show-in-Minutes.ensures.refused
 
 pub returns-clause-shown : goal.returns-clause-shown
 returns-clause-shown g c =
-    gives_for g.S.Store c.args.self.now c.show_people.new.self c.show_people.result (λ z owner cs. IsShownTo g.L.RequestList.holds owner cs c.args.person z) c.args.reading _ c.in-People.is
-    c.show_people.ensures.shown
+    gives_for g.S.Store c.args.self.now c.show-in-People.new.self c.show-in-People.result (λ z owner cs. IsShownTo g.L.RequestList.holds owner cs c.args.person z) c.args.reading _ c.in-People.is
+    c.show-in-People.ensures.shown
 
 pub returns-clause-refused : goal.returns-clause-refused
 returns-clause-refused g c =
-    refuses_for g.S.Store c.args.self.now c.show_people.new.self c.show_people.result (λ z owner cs. IsShownTo g.L.RequestList.holds owner cs c.args.person z) c.args.reading _ c.in-People.is
-    c.show_people.ensures.refused
+    refuses_for g.S.Store c.args.self.now c.show-in-People.new.self c.show-in-People.result (λ z owner cs. IsShownTo g.L.RequestList.holds owner cs c.args.person z) c.args.reading _ c.in-People.is
+    c.show-in-People.ensures.refused
 
 pub returns-in-Report-clause-closed : goal.returns-in-Report-clause-closed
 returns-in-Report-clause-closed g c was =
