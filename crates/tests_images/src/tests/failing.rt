@@ -7,7 +7,7 @@ use super::layouts::{PARTS, RANGES, with_sections};
 use super::lines::FACTS;
 use authenticode::sums;
 use base::Refusal;
-use cli_output::{Fault, print_ranges};
+use cli_output::print_ranges;
 use desk_inputs::facts;
 use pe_image::{Bytes, LayoutFault, PIECE, ReadFailed, Source, gap, layout};
 use std::alloc::Global;
@@ -48,35 +48,54 @@ impl Source for Failing<'_> {
     }
 }
 
-/// How many reads the facts of an image take.
-fn reads_of(alloc: Global, bytes: &[u8]) -> u64 {
-    let mut source = Failing {
-        bytes,
-        left: u64::MAX,
-        failures: 0,
-    };
-    let _ = facts(alloc, &mut source);
-    u64::MAX - source.left
+/// What is read of an image.
+#[derive(Clone, Copy)]
+enum Reading {
+    Facts,
+    Ranges,
+}
+
+/// The refusal of a reading, if it has one: `File`, if ranges were printed before it, or if it has
+/// a place.
+fn refusal_of(alloc: Global, reading: Reading, source: &mut Failing<'_>) -> Option<Refusal> {
+    match reading {
+        Reading::Facts => match facts(alloc, source) {
+            Err(fault) => Some(fault.refusal()),
+            Ok(_) => None,
+        },
+        Reading::Ranges => {
+            let mut out = Vec::new(alloc);
+            match print_ranges(source, &mut out) {
+                Err(fault) if out.is_empty() && fault.place.is_none() => Some(fault.refusal),
+                Err(_) => Some(Refusal::File),
+                Ok(()) => None,
+            }
+        }
+    }
 }
 
 /// Whether a read that fails after this many is told, and none follows it.
-fn is_told(alloc: Global, bytes: &[u8], left: u64) -> bool {
+fn is_told(alloc: Global, reading: Reading, bytes: &[u8], left: u64) -> bool {
     let mut source = Failing {
         bytes,
         left,
         failures: 0,
     };
-    match facts(alloc, &mut source) {
-        Err(fault) => fault.refusal() == Refusal::Read && source.failures == 1,
-        Ok(_) => false,
-    }
+    let refusal = refusal_of(alloc, reading, &mut source);
+    refusal == Some(Refusal::Read) && source.failures == 1
 }
 
-/// How many reads the facts of an image take, if each of them is told where it fails.
-fn reads_told(alloc: Global, bytes: &[u8]) -> Option<u64> {
-    let reads = reads_of(alloc, bytes);
+/// How many reads an image takes, if each of them is told where it fails.
+fn reads_told(alloc: Global, reading: Reading, bytes: &[u8]) -> Option<u64> {
+    let mut source = Failing {
+        bytes,
+        left: u64::MAX,
+        failures: 0,
+    };
+    let _ = refusal_of(alloc, reading, &mut source);
+    let reads = u64::MAX - source.left;
     for left in 0..reads {
-        if !is_told(alloc, bytes, left) {
+        if !is_told(alloc, reading, bytes, left) {
             return None;
         }
     }
@@ -84,27 +103,28 @@ fn reads_told(alloc: Global, bytes: &[u8]) -> Option<u64> {
 }
 
 /// The same of all images of a script.
-fn reads_told_in(alloc: Global, script: &str) -> Result<u64, Fail> {
+fn reads_told_in(alloc: Global, reading: Reading, script: &str) -> Result<u64, Fail> {
     let mut reads = 0u64;
     for line in script.lines() {
         let (words, _) = line.split_once(" = ").ok_or("a line without an answer")?;
         let bytes = image(alloc, words)?;
-        let own = reads_told(alloc, &bytes).ok_or("a read that fails isn't told")?;
+        let own = reads_told(alloc, reading, &bytes).ok_or("a read that fails isn't told")?;
         reads = reads.saturating_add(own);
     }
     Ok(reads)
 }
 
 /// Of whichever image, taken or refused, every failed read is reported by its own call: within the
-/// layout, the digests, the table and the text.
+/// layout, the digests, the table and the text. No range is printed then.
 #[test]
 fn tells_of_each_read_that_fails(rt: HostRuntime) -> Result<(), Fail> {
-    for script in [FACTS, RANGES, PARTS, DIGESTS] {
-        let reads = reads_told_in(rt.alloc(), script)?;
-        assert!(rt; 50 <= reads, "so many reads");
-    }
-    let bytes = with_sections(rt.alloc(), 96)?;
-    assert!(rt; reads_told(rt.alloc(), &bytes).is_some());
+    let alloc = rt.alloc();
+    assert!(rt; 50 <= reads_told_in(alloc, Reading::Facts, FACTS)?);
+    assert!(rt; 50 <= reads_told_in(alloc, Reading::Facts, DIGESTS)?);
+    assert!(rt; 50 <= reads_told_in(alloc, Reading::Ranges, RANGES)?);
+    assert!(rt; 50 <= reads_told_in(alloc, Reading::Ranges, PARTS)?);
+    let bytes = with_sections(alloc, 96)?;
+    assert!(rt; reads_told(alloc, Reading::Ranges, &bytes).is_some());
     Ok(())
 }
 
@@ -147,32 +167,6 @@ pub(super) fn takes_few_reads(bytes: &[u8]) -> Result<bool, Fail> {
 fn hashes_an_image_by_one_read_of_a_piece(rt: HostRuntime) -> Result<(), Fail> {
     assert!(rt; takes_reads(rt.alloc(), "66560 ^", 2)?);
     assert!(rt; takes_reads(rt.alloc(), "140000 * 70:0200 384:409c0000a0860100", 6)?);
-    Ok(())
-}
-
-#[test]
-fn prints_no_range_where_a_read_fails(rt: HostRuntime) -> Result<(), Fail> {
-    let bytes = image(rt.alloc(), "1024 +")?;
-    let mut last = 0;
-    for left in 0..100 {
-        let mut source = Failing {
-            bytes: &bytes,
-            left,
-            failures: 0,
-        };
-        let mut out = Vec::new(rt.alloc());
-        let answer = print_ranges(&mut source, &mut out);
-        assert!(rt; source.failures == u64::from(answer.is_err()), "{left}");
-        if answer.is_err() {
-            assert!(rt; answer == Err(Fault::from(Refusal::Read)) && out.is_empty());
-            assert!(rt;
-                left.saturating_sub(last) <= 1,
-                "none is passed over: {left}"
-            );
-            last = left;
-        }
-    }
-    assert!(rt; 11 <= last && last < 99, "so many reads");
     Ok(())
 }
 
