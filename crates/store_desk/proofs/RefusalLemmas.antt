@@ -82,12 +82,11 @@ no_store (read.Proposal k) h = not_true h
 no_store (read.Impact k) h = not_true h
 no_store read.Waiting h = not_true h
 no_store read.Changes h = not_true h
-no_store read.Dbx h = not_true h
-no_store read.Db h = not_true h
-no_store read.Level h = not_true h
+no_store (read.Export what) h = not_true h
 no_store read.Report h = not_true h
 no_store (read.Minutes n) h = not_true h
 no_store read.People h = not_true h
+no_store read.Me h = not_true h
 
 pub never_store : {A : Type 0} (reading : Reading) (given : Result A Refusal) → IfErr given (λ r. IsTrue (may_refuse reading r)) → IsErrOf given refusals.Store → ⊥
 never_store reading (Ok x) may is = absurd cc
