@@ -1,17 +1,14 @@
-use Rattle.std.proofs.Common.{◌≡◌, true, false, Some, None, Ok, Err, filter, length, rules, arith, subst}
+use Rattle.std.proofs.Common.{◌≡◌, true, false, Some, None, Ok, Err, length, rules, arith}
 use Rattle.std.specs.Prelude.{option_copied}
 use Rattle.sqlite.specs.Held.{state}
 use Rattle.sqlite.specs.State.{HasCleanDisk}
 use Rattle.base.specs.declared.refusal.Refusal.TheVariants as refusals
 use Rattle.desk_types.specs.declared.caller.Caller.TheVariants as callers
 use Rattle.desk_exports.specs.Changes.{changes_for}
-use Rattle.desk_history.specs.People.{has_name, people}
 use Rattle.desk_history.specs.Shown.{IsGiven}
-use Rattle.store_reads.specs.People.{IsOneOf}
-use Rattle.store_reads.specs.Reads.{ReadsTables, listed}
-use Rattle.store_reads.proofs.TellsLemmas.{tells_then}
+use Rattle.store_reads.specs.Reads.{ReadsTables}
 use Rattle.store_shown.specs.Happening.{HappenedToFirst, is_submitter}
-use Rattle.store_shown.proofs.TellsLemmas.{tells_of}
+use Rattle.store_shown.proofs.TellsLemmas.{Knows, tells_nobody, tells_person}
 use Rattle.store_shown.proofs.WaitingLemmas.{changes_by_calls, changes_by_events, changes_nobody}
 use Rattle.store_shown.proofs.changes.changes_of.Goals as goal
 
@@ -20,12 +17,9 @@ returns-in_default-clause-value g c clean inside =
     let name = c.args.name.now in
     let found = c.in_ok-found.found in
     let kept = option_copied c.args.kept_person in
-    let s0 = state g.S.Store c.args.tx.now.conn.now in
-    let s1 = state g.S.Store c.reader_of.new.tx.conn.now in
-    let read : ReadsTables (λ t. IsOneOf kept t.people → filter (has_name name) t.people ≡ listed found) s0 s1 = c.in_ok-found.ensures.value clean inside in
     let none : found ≡ None = search (rules, c.in_default.is) in
-    tells_of s0 s1 (λ t. IsOneOf kept t.people → filter (has_name name) t.people ≡ listed found) (λ cs. IsOneOf kept (people cs) → IsGiven (changes_for cs (callers.Person name)) (Err refusals.UnknownCaller) (λ due n. n ≡ due))
-    (λ owner cs h e known. changes_nobody owner cs name (subst (λ o. filter (has_name name) (people cs) ≡ listed o) none (e known))) read
+    tells_nobody kept name found (λ cs. IsGiven (changes_for cs (callers.Person name)) (Err refusals.UnknownCaller) (λ due n. n ≡ due))
+    (state g.S.Store c.args.tx.now.conn.now) (state g.S.Store c.reader_of.new.tx.conn.now) none (λ owner cs e. changes_nobody owner cs name e) (c.in_ok-found.ensures.value clean inside)
 
 pub returns-then-not-is_submitter-clause-value : goal.returns-then-not-is_submitter-clause-value
 returns-then-not-is_submitter-clause-value g c clean inside =
@@ -38,14 +32,12 @@ returns-then-not-is_submitter-clause-value g c clean inside =
     let s1 = state g.S.Store c.reader_of.new.tx.conn.now in
     let s2 = state g.S.Store c.count.new.tx.conn.now in
     let c1 : HasCleanDisk s1 = omega (arith, c.in_ok-calls.ensures.survives.clean, clean) in
-    let first : ReadsTables (λ t. IsOneOf kept t.people → filter (has_name name) t.people ≡ listed found) s0 s1 = c.in_ok-found.ensures.value c1 inside in
+    let first : ReadsTables (Knows kept name found) s0 s1 = c.in_ok-found.ensures.value c1 inside in
     let second : ReadsTables (λ t. n ≡ length t.calls) s1 s2 = c.in_ok-calls.ensures.value clean first.kept.inside in
     let some : found ≡ Some reader = search (rules, c.in-Some.is) in
     let is : is_submitter reader.role ≡ false = search (rules, c.is_submitter.ensures, c.if-not-is_submitter.true) in
-    tells_of s0 s2 (λ t. (IsOneOf kept t.people → filter (has_name name) t.people ≡ listed found) × (n ≡ length t.calls))
-    (λ cs. IsOneOf kept (people cs) → IsGiven (changes_for cs (callers.Person name)) (Ok n) (λ due m. m ≡ due))
-    (λ owner cs h both known. changes_by_calls owner cs name reader (subst (λ o. filter (has_name name) (people cs) ≡ listed o) some (both.0 known)) is n both.1)
-    (tells_then s0 s1 s2 (λ t. IsOneOf kept t.people → filter (has_name name) t.people ≡ listed found) (λ t. n ≡ length t.calls) first second)
+    tells_person kept name found (λ cs. IsGiven (changes_for cs (callers.Person name)) (Ok n) (λ due m. m ≡ due)) s0 s1 s2 (λ t. n ≡ length t.calls) reader some
+    (λ owner cs h e counted. changes_by_calls owner cs name reader e is n counted) first second
 
 pub returns-clause-value : goal.returns-clause-value
 returns-clause-value g c clean inside =
@@ -58,11 +50,9 @@ returns-clause-value g c clean inside =
     let s1 = state g.S.Store c.reader_of.new.tx.conn.now in
     let s2 = state g.S.Store c.events_of_all.new.tx.conn.now in
     let c1 : HasCleanDisk s1 = omega (arith, c.in_ok-events.ensures.survives.clean, clean) in
-    let first : ReadsTables (λ t. IsOneOf kept t.people → filter (has_name name) t.people ≡ listed found) s0 s1 = c.in_ok-found.ensures.value c1 inside in
+    let first : ReadsTables (Knows kept name found) s0 s1 = c.in_ok-found.ensures.value c1 inside in
     let second : ReadsTables (λ t. HappenedToFirst reader t (length t.requests) n) s1 s2 = c.in_ok-events.ensures.value clean first.kept.inside in
     let some : found ≡ Some reader = search (rules, c.in-Some.is) in
     let is : is_submitter reader.role ≡ true = search (rules, c.is_submitter.ensures, c.if-not-is_submitter.false) in
-    tells_of s0 s2 (λ t. (IsOneOf kept t.people → filter (has_name name) t.people ≡ listed found) × HappenedToFirst reader t (length t.requests) n)
-    (λ cs. IsOneOf kept (people cs) → IsGiven (changes_for cs (callers.Person name)) (Ok n) (λ due m. m ≡ due))
-    (λ owner cs h both known. changes_by_events owner cs name reader (subst (λ o. filter (has_name name) (people cs) ≡ listed o) some (both.0 known)) is n both.1)
-    (tells_then s0 s1 s2 (λ t. IsOneOf kept t.people → filter (has_name name) t.people ≡ listed found) (λ t. HappenedToFirst reader t (length t.requests) n) first second)
+    tells_person kept name found (λ cs. IsGiven (changes_for cs (callers.Person name)) (Ok n) (λ due m. m ≡ due)) s0 s1 s2 (λ t. HappenedToFirst reader t (length t.requests) n) reader some
+    (λ owner cs h e happened. changes_by_events owner cs name reader e is n happened) first second

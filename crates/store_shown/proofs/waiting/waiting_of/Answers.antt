@@ -1,22 +1,19 @@
-use Rattle.std.proofs.Common.{◌≡◌, [], true, false, Some, None, Ok, Err, filter, length, rules, arith, subst}
+use Rattle.std.proofs.Common.{◌≡◌, [], true, false, Some, None, Ok, Err, length, rules, arith}
 use Rattle.std.specs.Prelude.{option_copied}
 use Rattle.sqlite.specs.Held.{state}
 use Rattle.sqlite.specs.State.{HasCleanDisk}
 use Rattle.base.specs.declared.refusal.Refusal.TheVariants as refusals
 use Rattle.desk_types.specs.declared.caller.Caller.TheVariants as callers
-use Rattle.desk_history.specs.People.{has_name, people}
 use Rattle.desk_history.specs.Roles.{is_officer}
 use Rattle.desk_history.specs.Shown.{IsGiven}
 use Rattle.desk_exports.specs.Waiting.{waiting_for}
 use Rattle.store_proposals.specs.Numbered as numbered
-use Rattle.store_reads.specs.People.{IsOneOf}
-use Rattle.store_reads.specs.Reads.{ReadsTables, listed}
-use Rattle.store_reads.proofs.TellsLemmas.{tells_then}
+use Rattle.store_reads.specs.Reads.{ReadsTables}
 use Rattle.store_shown.specs.Choosing.{ListsUpTo}
 use Rattle.store_shown.specs.Waits.{ShowsWaiting}
 use Rattle.store_shown.specs.declared.choice.Choice.TheVariants as choices
 use Rattle.store_shown.specs.declared.waits.Waits.{Waits}
-use Rattle.store_shown.proofs.TellsLemmas.{tells_of}
+use Rattle.store_shown.proofs.TellsLemmas.{Knows, tells_nobody, tells_person}
 use Rattle.store_shown.proofs.WaitingLemmas.{waits_nobody, waits_officer, waits_other}
 use Rattle.store_shown.proofs.waiting.waiting_of.Goals as goal
 
@@ -25,12 +22,9 @@ returns-in_default-clause-value g c clean inside =
     let name = c.args.name.now in
     let found = c.in_ok-found.found in
     let kept = option_copied c.args.kept_person in
-    let s0 = state g.S.Store c.args.tx.now.conn.now in
-    let s1 = state g.S.Store c.reader_of.new.tx.conn.now in
-    let read : ReadsTables (λ t. IsOneOf kept t.people → filter (has_name name) t.people ≡ listed found) s0 s1 = c.in_ok-found.ensures.value clean inside in
     let none : found ≡ None = search (rules, c.in_default.is) in
-    tells_of s0 s1 (λ t. IsOneOf kept t.people → filter (has_name name) t.people ≡ listed found) (λ cs. IsOneOf kept (people cs) → IsGiven (waiting_for cs (callers.Person name)) (Err refusals.UnknownCaller) (ShowsWaiting g.L.RequestList.holds cs))
-    (λ owner cs h e known. waits_nobody owner cs name (ShowsWaiting g.L.RequestList.holds cs) (subst (λ o. filter (has_name name) (people cs) ≡ listed o) none (e known))) read
+    tells_nobody kept name found (λ cs. IsGiven (waiting_for cs (callers.Person name)) (Err refusals.UnknownCaller) (ShowsWaiting g.L.RequestList.holds cs))
+    (state g.S.Store c.args.tx.now.conn.now) (state g.S.Store c.reader_of.new.tx.conn.now) none (λ owner cs e. waits_nobody owner cs name (ShowsWaiting g.L.RequestList.holds cs) e) (c.in_ok-found.ensures.value clean inside)
 
 pub returns-then-is_officer-clause-value : goal.returns-then-is_officer-clause-value
 returns-then-is_officer-clause-value g c clean inside =
@@ -45,15 +39,12 @@ returns-then-is_officer-clause-value g c clean inside =
     let s1 = state g.S.Store c.reader_of.new.tx.conn.now in
     let s2 = state g.S.Store c.proposals_for.new.tx.conn.now in
     let c1 : HasCleanDisk s1 = omega (arith, c.in_ok-proposals.ensures.survives.clean, clean) in
-    let first : ReadsTables (λ t. IsOneOf kept t.people → filter (has_name name) t.people ≡ listed found) s0 s1 = c.in_ok-found.ensures.value c1 inside in
+    let first : ReadsTables (Knows kept name found) s0 s1 = c.in_ok-found.ensures.value c1 inside in
     let second : ReadsTables (λ t. numbered.ListsUpTo (Some reader.name) t 0 (length t.proposals) (length t.proposals) list.items) s1 s2 = c.in_ok-proposals.ensures.value clean first.kept.inside in
     let some : found ≡ Some reader = search (rules, c.in-Some.is) in
     let is : is_officer reader.role ≡ true = search (rules, c.is_officer.ensures, c.if-is_officer.true) in
-    tells_of s0 s2 (λ t. (IsOneOf kept t.people → filter (has_name name) t.people ≡ listed found) × numbered.ListsUpTo (Some reader.name) t 0 (length t.proposals) (length t.proposals) list.items)
-    (λ cs. IsOneOf kept (people cs) → IsGiven (waiting_for cs (callers.Person name)) (Ok shown) (ShowsWaiting holds cs))
-    (λ owner cs h both known.
-    waits_officer owner cs name reader (subst (λ o. filter (has_name name) (people cs) ≡ listed o) some (both.0 known)) holds shown (c.proposals_are_listable.ensures owner cs h) is both.1 c.new-requests.ensures)
-    (tells_then s0 s1 s2 (λ t. IsOneOf kept t.people → filter (has_name name) t.people ≡ listed found) (λ t. numbered.ListsUpTo (Some reader.name) t 0 (length t.proposals) (length t.proposals) list.items) first second)
+    tells_person kept name found (λ cs. IsGiven (waiting_for cs (callers.Person name)) (Ok shown) (ShowsWaiting holds cs)) s0 s1 s2 (λ t. numbered.ListsUpTo (Some reader.name) t 0 (length t.proposals) (length t.proposals) list.items) reader some
+    (λ owner cs h e lists. waits_officer owner cs name reader e holds shown (c.proposals_are_listable.ensures owner cs h) is lists c.new-requests.ensures) first second
 
 pub returns-clause-value : goal.returns-clause-value
 returns-clause-value g c clean inside =
@@ -68,12 +59,10 @@ returns-clause-value g c clean inside =
     let s1 = state g.S.Store c.reader_of.new.tx.conn.now in
     let s2 = state g.S.Store c.requests_for.new.tx.conn.now in
     let c1 : HasCleanDisk s1 = omega (arith, c.in_ok-requests.ensures.survives.clean, clean) in
-    let first : ReadsTables (λ t. IsOneOf kept t.people → filter (has_name name) t.people ≡ listed found) s0 s1 = c.in_ok-found.ensures.value c1 inside in
+    let first : ReadsTables (Knows kept name found) s0 s1 = c.in_ok-found.ensures.value c1 inside in
     let second : ReadsTables (λ t. ListsUpTo choices.Waiting reader t 0 (length t.requests) (length t.requests) (holds list)) s1 s2 = c.in_ok-requests.ensures.value clean first.kept.inside in
     let some : found ≡ Some reader = search (rules, c.in-Some.is) in
     let is : is_officer reader.role ≡ false = search (rules, c.is_officer.ensures, c.if-is_officer.false) in
     let empty : shown.proposals.items ≡ [] = c.new-proposals.ensures.items in
-    tells_of s0 s2 (λ t. (IsOneOf kept t.people → filter (has_name name) t.people ≡ listed found) × ListsUpTo choices.Waiting reader t 0 (length t.requests) (length t.requests) (holds list))
-    (λ cs. IsOneOf kept (people cs) → IsGiven (waiting_for cs (callers.Person name)) (Ok shown) (ShowsWaiting holds cs))
-    (λ owner cs h both known. waits_other owner cs name reader (subst (λ o. filter (has_name name) (people cs) ≡ listed o) some (both.0 known)) holds shown h is both.1 empty)
-    (tells_then s0 s1 s2 (λ t. IsOneOf kept t.people → filter (has_name name) t.people ≡ listed found) (λ t. ListsUpTo choices.Waiting reader t 0 (length t.requests) (length t.requests) (holds list)) first second)
+    tells_person kept name found (λ cs. IsGiven (waiting_for cs (callers.Person name)) (Ok shown) (ShowsWaiting holds cs)) s0 s1 s2 (λ t. ListsUpTo choices.Waiting reader t 0 (length t.requests) (length t.requests) (holds list)) reader some
+    (λ owner cs h e lists. waits_other owner cs name reader e holds shown h is lists empty) first second
