@@ -52,20 +52,14 @@ fn person_words_at<'a>(matches: &ArgMatches<'a>) -> Option<PersonWords<'a>>
 fn person_at<'a>(matches: &ArgMatches<'a>) -> Option<Words<'a>>
     ensures { option_map line_of result ≡ four_in person (rows_of (found_of matches.now)) }
 {
-    match person_words_at(matches) {
-        Some(words) => Some(Words::Person(words)),
-        None => None,
-    }
+    Some(Words::Person(person_words_at(matches)?))
 }
 
 /// `enrol` with its words.
 fn enrol_at<'a>(matches: &ArgMatches<'a>) -> Option<Words<'a>>
     ensures { option_map line_of result ≡ four_in enrol (rows_of (found_of matches.now)) }
 {
-    match person_words_at(matches) {
-        Some(words) => Some(Words::Enrol(words)),
-        None => None,
-    }
+    Some(Words::Enrol(person_words_at(matches)?))
 }
 
 /// `serve` with its words.

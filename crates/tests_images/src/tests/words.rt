@@ -1,33 +1,32 @@
 //! The words of the command line.
 use super::{Call, check};
-use cli_arguments::{AuditWords, FollowWords, PersonWords, ServeWords, Words, WordsFault, words};
+use cli_arguments::{WordsFault, words};
 use std::alloc::{AllocError, Global};
 use std::fmt::Write;
 use std::test::Fail;
 
-const WORDS: &str = "\
-init a.db 0011 = init of a.db for 0011
-person a.db olga officer k1 = person of a.db: olga officer k1
-enrol a.db olga officer k1 = enrol of a.db: olga officer k1
-serve a.db 80 5 = serve of a.db: 80 5
-answer a.db = answer of a.db
-facts a/b.efi = facts of a/b.efi
-ranges a/b.efi = ranges of a/b.efi
-verdict a.db b.efi = verdict of a.db and b.efi
-impact a.db 7 = impact of a.db: 7
-db a.db = db of a.db
-dbx a.db = dbx of a.db
-shim a.db = shim of a.db
-level a.db = level of a.db
-audit 0011 m.txt = audit of m.txt for 0011
-audit 0011 - = audit of - for 0011
-audit 0011 m.txt dbx = audit of m.txt for 0011: dbx
-audit 0011 m.txt shim = audit of m.txt for 0011: shim
-follow a.db 0011 m.txt = follow of m.txt on a.db for 0011
-follow a.db 0011 - = follow of - on a.db for 0011
-list a/b.esl = list of a/b.esl
-pack 0011 = pack of 0011
-minutes a.db = minutes of a.db
+const WORDS: &str = r#"init a.db 0011 = Init { db: "a.db", owner: "0011" }
+person a.db olga officer k1 = Person(PersonWords { db: "a.db", name: "olga", role: "officer", key: "k1" })
+enrol a.db olga officer k1 = Enrol(PersonWords { db: "a.db", name: "olga", role: "officer", key: "k1" })
+serve a.db 80 5 = Serve(ServeWords { db: "a.db", port: "80", count: "5" })
+answer a.db = Answer { db: "a.db" }
+facts a/b.efi = Facts { file: "a/b.efi" }
+ranges a/b.efi = Ranges { file: "a/b.efi" }
+verdict a.db b.efi = Verdict { db: "a.db", file: "b.efi" }
+impact a.db 7 = Impact { db: "a.db", number: "7" }
+db a.db = Db { db: "a.db" }
+dbx a.db = Dbx { db: "a.db" }
+shim a.db = Shim { db: "a.db" }
+level a.db = Level { db: "a.db" }
+audit 0011 m.txt = Audit(AuditWords { owner: "0011", file: "m.txt", export: None })
+audit 0011 - = Audit(AuditWords { owner: "0011", file: "-", export: None })
+audit 0011 m.txt dbx = Audit(AuditWords { owner: "0011", file: "m.txt", export: Some("dbx") })
+audit 0011 m.txt shim = Audit(AuditWords { owner: "0011", file: "m.txt", export: Some("shim") })
+follow a.db 0011 m.txt = Follow(FollowWords { db: "a.db", owner: "0011", file: "m.txt" })
+follow a.db 0011 - = Follow(FollowWords { db: "a.db", owner: "0011", file: "-" })
+list a/b.esl = List { file: "a/b.esl" }
+pack 0011 = Pack { owner: "0011" }
+minutes a.db = Minutes { db: "a.db" }
 --help = Usage: desk <COMMAND>
 -h = Usage: desk <COMMAND>
 help = Usage: desk <COMMAND>
@@ -96,7 +95,7 @@ pack = mistake
 pack 0011 more = mistake
 minutes = mistake
 minutes a.db more = mistake
-";
+"#;
 
 /// Appends the line that begins with `Usage:`, or else the first.
 fn tell_usage(told: &mut String, text: &str) -> Result<(), AllocError> {
@@ -106,72 +105,6 @@ fn tell_usage(told: &mut String, text: &str) -> Result<(), AllocError> {
         }
     }
     told.push_str(text.lines().next().unwrap_or(""))
-}
-
-/// Appends a subcommand with its words.
-fn tell_words(told: &mut String, line: Words<'_>) -> Result<(), AllocError> {
-    match line {
-        Words::Init { db, owner } => write!(told, "init of {db} for {owner}"),
-        Words::Person(words) => tell_person(told, "person", words),
-        Words::Enrol(words) => tell_person(told, "enrol", words),
-        Words::Serve(words) => tell_serve(told, words),
-        Words::Answer { db } => write!(told, "answer of {db}"),
-        Words::Facts { file } => write!(told, "facts of {file}"),
-        Words::Ranges { file } => write!(told, "ranges of {file}"),
-        Words::Verdict { db, file } => write!(told, "verdict of {db} and {file}"),
-        Words::Impact { db, number } => write!(told, "impact of {db}: {number}"),
-        Words::Db { db } => write!(told, "db of {db}"),
-        Words::Dbx { db } => write!(told, "dbx of {db}"),
-        Words::Shim { db } => write!(told, "shim of {db}"),
-        Words::Level { db } => write!(told, "level of {db}"),
-        Words::Audit(words) => tell_audit(told, words),
-        Words::Follow(words) => tell_follow(told, words),
-        Words::List { file } => write!(told, "list of {file}"),
-        Words::Pack { owner } => write!(told, "pack of {owner}"),
-        Words::Minutes { db } => write!(told, "minutes of {db}"),
-    }
-}
-
-/// Appends the words of `person` or `enrol`.
-fn tell_person(
-    told: &mut String,
-    subcommand: &str,
-    words: PersonWords<'_>,
-) -> Result<(), AllocError> {
-    let PersonWords {
-        db,
-        name,
-        role,
-        key,
-    } = words;
-    write!(told, "{subcommand} of {db}: ")?;
-    write!(told, "{name} {role} {key}")
-}
-
-/// Appends the words of `serve`.
-fn tell_serve(told: &mut String, words: ServeWords<'_>) -> Result<(), AllocError> {
-    let ServeWords { db, port, count } = words;
-    write!(told, "serve of {db}: {port} {count}")
-}
-
-/// Appends the words of `audit`.
-fn tell_audit(told: &mut String, words: AuditWords<'_>) -> Result<(), AllocError> {
-    let AuditWords {
-        owner,
-        file,
-        export,
-    } = words;
-    write!(told, "audit of {file} for {owner}")?;
-    match export {
-        None => Ok(()),
-        Some(export) => write!(told, ": {export}"),
-    }
-}
-
-/// Appends the words of `follow`.
-fn tell_follow(told: &mut String, words: FollowWords<'_>) -> Result<(), AllocError> {
-    let FollowWords { db, owner, file } = words;
-    write!(told, "follow of {file} on {db} for {owner}")
 }
 
 /// The words of a line.
@@ -187,7 +120,7 @@ fn words_of(alloc: Global, input: &str) -> Result<Vec<String>, AllocError> {
 pub fn of_words(alloc: Global, told: &mut String, input: &str) -> Result<(), Fail> {
     let given = words_of(alloc, input)?;
     match words(alloc, given.as_slice()) {
-        Ok(line) => tell_words(told, line)?,
+        Ok(line) => write!(told, "{line:?}")?,
         Err(WordsFault::Refused(error)) => {
             if error.use_stderr() {
                 return Ok(told.push_str("mistake")?);

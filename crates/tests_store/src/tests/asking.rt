@@ -17,10 +17,7 @@ fn viewed<S: Alter + Drop>(desk: &mut Desk<S>, call: &Call) -> Result<View, Refu
 
 /// The decision on a call by this view.
 fn decided_by(alloc: Global, view: &View, call: &Call) -> Result<Reply, Refusal> {
-    match decide(alloc, view, &call.caller, &call.key, &call.command) {
-        Ok(changes) => Ok(changes.reply),
-        Err(refusal) => Err(refusal),
-    }
+    Ok(decide(alloc, view, &call.caller, &call.key, &call.command)?.reply)
 }
 
 /// The decision on a call by the desk's view for it.
@@ -29,10 +26,7 @@ fn decided<S: Alter + Drop>(
     desk: &mut Desk<S>,
     call: &Call,
 ) -> Result<Reply, Refusal> {
-    match viewed(desk, call) {
-        Ok(view) => decided_by(alloc, &view, call),
-        Err(refusal) => Err(refusal),
-    }
+    decided_by(alloc, &viewed(desk, call)?, call)
 }
 
 /// The answer to a call, in words.
