@@ -125,13 +125,13 @@ returns-in-Minutes-clause-refused g c =
     refuses_for g.S.Store c.args.self.now c.show-in-Minutes.new.self c.show-in-Minutes.result (λ z owner cs. IsShownTo g.L.RequestList.holds owner cs c.args.person z) c.args.reading _ c.in-Minutes.is
     c.show-in-Minutes.ensures.refused
 
-pub returns-clause-shown : goal.returns-clause-shown
-returns-clause-shown g c =
+pub returns-in-People-clause-shown : goal.returns-in-People-clause-shown
+returns-in-People-clause-shown g c =
     gives_for g.S.Store c.args.self.now c.show-in-People.new.self c.show-in-People.result (λ z owner cs. IsShownTo g.L.RequestList.holds owner cs c.args.person z) c.args.reading _ c.in-People.is
     c.show-in-People.ensures.shown
 
-pub returns-clause-refused : goal.returns-clause-refused
-returns-clause-refused g c =
+pub returns-in-People-clause-refused : goal.returns-in-People-clause-refused
+returns-in-People-clause-refused g c =
     refuses_for g.S.Store c.args.self.now c.show-in-People.new.self c.show-in-People.result (λ z owner cs. IsShownTo g.L.RequestList.holds owner cs c.args.person z) c.args.reading _ c.in-People.is
     c.show-in-People.ensures.refused
 
