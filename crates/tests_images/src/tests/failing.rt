@@ -93,7 +93,7 @@ fn reads_told(alloc: Global, reading: Reading, bytes: &[u8]) -> Option<u64> {
         failures: 0,
     };
     let _ = refusal_of(alloc, reading, &mut source);
-    let reads = u64::MAX - source.left;
+    let reads = u64::MAX.saturating_sub(source.left);
     for left in 0..reads {
         if !is_told(alloc, reading, bytes, left) {
             return None;
