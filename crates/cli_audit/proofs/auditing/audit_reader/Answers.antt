@@ -16,4 +16,4 @@ returns-in-Err-write_last-clause-audited g c =
 
 pub returns-in-Err-clause-audited : goal.returns-in-Err-clause-audited
 returns-in-Err-clause-audited g c =
-    stopped_by c.args.what c.args.owner.now _ _ c.audit.new.watch c.in-Err.fault c.row.result c.row.ensures c.in-Err.ensures.wrong c.in-Err.ensures.passes c.in-Err.ensures.named
+    stopped_by c.args.what c.args.owner.now _ _ c.audit.new.watch c.in-Err.fault c.fault_row.result c.fault_row.ensures c.in-Err.ensures.wrong c.in-Err.ensures.passes c.in-Err.ensures.named

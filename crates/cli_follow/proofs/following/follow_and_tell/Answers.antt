@@ -17,7 +17,7 @@ returns-in-Ok-result-clause-ran g c =
 
 pub returns-in-Err-result-clause-ran : goal.returns-in-Err-result-clause-ran
 returns-in-Err-result-clause-ran g c =
-    stopped_runs g.S.Store c.args.desk c.in-Ok.run'.desk _ _ c.follow.new.watch c.in-Err-result.fault c.row.result c.row.ensures
+    stopped_runs g.S.Store c.args.desk c.in-Ok.run'.desk _ _ c.follow.new.watch c.in-Err-result.fault c.fault_row.result c.fault_row.ensures
     (λ clean s b. fault_of (λ fault. (n : ℕ) → fault ≡ Line n → IsWrongLine g.S.Store c.args.desk c.in-Ok.run'.desk s n)
     c.in-Ok.run'.result c.in-Err-result.fault c.in-Err-result.is (c.in-Ok.ensures.wrong clean s b))
     c.in-Ok.ensures.stopped c.in-Ok.ensures.clean
