@@ -1,5 +1,5 @@
 -- The step from what was read to the desk's result.
-use Rattle.std.proofs.Common.{◌≡◌, ◌≢◌, ℕ, List, Result, Ok, Err, MatchResult, IfOk, IfErr, sym, ap}
+use Rattle.std.proofs.Common.{◌≡◌, ◌≢◌, Result, Ok, Err, MatchResult, IfOk, IfErr, sym, ap}
 use Rattle.sqlite.specs.Store as store
 use Rattle.base.specs.declared.refusal.Refusal.{Refusal}
 use Rattle.base.specs.declared.refusal.Refusal.TheVariants as refusals

@@ -50,7 +50,6 @@ pub(crate) trait PersonQuestion: Drop {
         ensures named { IfOk result (λ given. IfErr given
             (λ refusal. IsTrue (may_refuse (reading self.now) refusal))) }
         ensures inside { StaysInside S.Store tx.old.conn.now tx.new.conn.now result }
-
         ensures kept { CommitsNothing S.Store tx.old.conn.now tx.new.conn.now }
         ensures survives { Spares S.Store tx.old.conn.now tx.new.conn.now };
 }
