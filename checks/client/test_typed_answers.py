@@ -29,6 +29,7 @@ ASKED = [
     Asked("submit", "twice", "ann", "submit 2.efi --title again"),
     Asked("yes", "second", "raul", "review 2 yes"),
     Asked("yes", "barred", "rita", "review 3 yes"),
+    Asked("several", "title", "raul", "review 6 7 yes"),
     Asked("no", "plain", "rita", "review 4 no"),
     Asked("withdraw", "plain", "ann", "withdraw 5"),
     Asked("return", "carried", "sid", "return 1 signed.efi"),
@@ -51,14 +52,14 @@ def image(number: int) -> bytes:
 
 @pytest.fixture
 def busy(office: Office) -> Office:
-    """An approved request, one with a yes, one that is barred, two open ones; a listed digest, an
+    """An approved request, three with a yes, one that is barred, two open ones; a listed digest, an
     open proposal."""
     office.file("db.esl", digest_list([digest("77")]))
-    for number in (2, 3, 4, 5):
+    for number in (2, 3, 4, 5, 6, 7):
         office.file(f"{number}.efi", image(number))
-    for name in ("plain", "2", "3", "4", "5"):
+    for name in ("plain", "2", "3", "4", "5", "6", "7"):
         office["ann"].does(f"submit {name}.efi --title 'image {name}'")
-    for name, number in (("rita", 1), ("raul", 1), ("rita", 2)):
+    for name, number in (("rita", 1), ("raul", 1), ("rita", 2), ("rita", 6), ("rita", 7)):
         office[name].does(f"review {number} yes --yes")
     office["olga"].does("list-certificate certificate.der --yes")
     office["olga"].does(f"list-digest {digest('ee')} --yes")

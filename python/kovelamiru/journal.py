@@ -97,7 +97,8 @@ class Entry:
     def over(self, status: int = DONE) -> NoReturn:
         """Ends the run: its answers were shown. Killed between the two lines, and run again, it
         acts again."""
-        self.done()
+        if not self.is_gone:
+            os.unlink(self.path)
         os._exit(status)
 
     def close(self) -> None:
