@@ -187,5 +187,8 @@ part('skip').addEventListener('click', (/** @type {Event} */ event) => {
 });
 part('token').addEventListener('input', () => faultAt(part('token')));
 show();
+// Until here the form can't be sent: nobody would have kept the browser from sending it.
+fill(part('sign-in-answer'));
+part('enter').disabled = false;
 part('token').focus();
 goInByCertificate();
