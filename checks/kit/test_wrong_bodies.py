@@ -77,3 +77,14 @@ def test_a_name_in_both_tiers_fails_and_so_does_a_crate_that_is_not_there(tree: 
     (tree / "checks/wrong_bodies/two/a.edit").touch()
     assert ran(tree, "two") == (1, ["checks/wrong_bodies.sh: two has a.edit in both tiers"])
     assert ran(tree, "three") == (1, ["checks/wrong_bodies.sh: there is no crate three"])
+
+
+def test_the_last_whole_run_is_of_bodies_that_stand() -> None:
+    lines = (ROOT / "checks/wrong_bodies/tried.tsv").read_text().splitlines()
+    assert lines[0].split("\t") == ["crate", "tier", "name", "file", "goal", "how refused"]
+    folders = {"gate": "crates/{}/must-fail", "second": "checks/wrong_bodies/{}"}
+    for line in lines[1:]:
+        crate, tier, name, file, goal, how = line.split("\t")
+        body = ROOT / folders[tier].format(crate) / f"{name}.edit"
+        assert f"file: {file}\n" in body.read_text(), line
+        assert goal and how.startswith("refused: "), line
