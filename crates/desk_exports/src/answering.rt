@@ -38,7 +38,8 @@ pub trait AnswersCalls {
             (λ _ cs. person ≡ person_with token.now cs)) }
         ensures same { clean self.new → result ≢ Err Refusal.Store
             → StillShows (shows self.old) (shows self.new) }
-        ensures fails { FailsSafely shows clean failed IsOutage IsReopened self.old self.new result };
+        ensures fails { FailsSafely shows clean failed IsOutage IsReopened
+            self.old self.new result };
 
     /// Answers the call of a command: an accepted one joins the history. A refusal by the rules
     /// changes nothing.
@@ -62,7 +63,8 @@ pub trait AnswersCalls {
             (λ _ cs. said ≡ verdicts.verdict cs facts.now)) }
         ensures same { clean self.new → result ≢ Err Refusal.Store
             → StillShows (shows self.old) (shows self.new) }
-        ensures fails { FailsSafely shows clean failed IsOutage IsReopened self.old self.new result };
+        ensures fails { FailsSafely shows clean failed IsOutage IsReopened
+            self.old self.new result };
 
     /// What the person is shown: a read changes nothing. Requests are collected into an `L`. A desk
     /// that has failed may still give what is due at any history, for example the person's own name
