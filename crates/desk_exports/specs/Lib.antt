@@ -1,6 +1,7 @@
 pub mod Bodies
 pub mod Changes
 pub mod Desks
+pub mod DigestSearch
 pub mod Exports
 pub mod Laws
 pub mod ListParts

@@ -11,6 +11,7 @@ use Rattle.desk_history.specs.Calls.{History}
 use Rattle.desk_exports.specs.Changes.{changes_for}
 use Rattle.desk_history.specs.Impact.{Impact}
 use Rattle.desk_history.specs.ImpactShown.{ShowsImpact, impact_for}
+use Rattle.desk_exports.specs.DigestSearch.{requests_with}
 use Rattle.desk_exports.specs.ListParts.{proposals_from, requests_from}
 use Rattle.desk_history.specs.PeopleShown.{ShowsPeople, people_for, shown_person}
 use Rattle.desk_history.specs.ProposalShown.{proposal_for}
@@ -81,6 +82,7 @@ module _ {L : Type 0} (holds : L → List ShownRequest → Type 0) where
   abbrev pub IsShownTo : List ℕ → History → Person → Reading → Result (Shown L) Refusal → Type 0
   IsShownTo owner cs p read.Requests given = IsGiven (requests_for cs (callers.Person p.name)) given GivesRequests
   IsShownTo owner cs p (read.RequestsFrom n) given = IsGiven (requests_from cs (callers.Person p.name) n) given GivesRequests
+  IsShownTo owner cs p (read.RequestsWith digest) given = IsGiven (requests_with cs (callers.Person p.name) digest) given GivesRequests
   IsShownTo owner cs p (read.Request k) given = IsGiven (request_for cs (callers.Person p.name) k) given GivesRequest
   IsShownTo owner cs p read.Proposals given = IsGiven (proposals_for cs (callers.Person p.name)) given (GivesProposals cs)
   IsShownTo owner cs p (read.ProposalsFrom n) given = IsGiven (proposals_from cs (callers.Person p.name) n) given (GivesProposals cs)
@@ -129,6 +131,7 @@ hides_impact refusal = hides_proposal refusal
 abbrev pub may_refuse : Reading → Refusal → Bool
 may_refuse read.Requests refusal = turns_away refusal
 may_refuse (read.RequestsFrom n) refusal = turns_away refusal
+may_refuse (read.RequestsWith digest) refusal = turns_away refusal
 may_refuse (read.Request k) refusal = hides_request refusal
 may_refuse read.Proposals refusal = turns_away refusal
 may_refuse (read.ProposalsFrom n) refusal = turns_away refusal

@@ -12,6 +12,7 @@ use Rattle.desk_history.specs.Worked.Proposals as proposals
 use Rattle.desk_history.specs.Worked.Returns as returns
 use Rattle.desk_exports.specs.Exports.{db, dbx, level, minutes_text, shim}
 use Rattle.desk_exports.specs.Reports.{report}
+pub mod DigestSearch
 pub mod Waiting
 
 -- the GUID 00112233-4455-6677-8899-aabbccddeeff, as it is stored

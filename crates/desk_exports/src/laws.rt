@@ -21,6 +21,7 @@ ghost use Rattle.desk_exports.specs.ListParts as part;
 ghost use Rattle.desk_exports.specs.MinutesShown as shown;
 ghost use Rattle.desk_exports.specs.Orders.{IsInOrder};
 ghost use Rattle.desk_exports.specs.Worked as worked;
+ghost use Rattle.desk_exports.specs.Worked.DigestSearch.{TellsFound};
 ghost use Rattle.desk_exports.specs.Worked.Waiting as waiting;
 
 /// An export is its parts, one after another: of dbx, a head and its entries for each kind that is
@@ -111,6 +112,11 @@ pub fn waiting_is_written()
     ensures waits { waiting.TellsWaiting }
     ensures parts { waiting.TellsParts }
     ensures changes { waiting.TellsChanges }
+{}
+
+/// The requests that people are shown by a digest are those that were written by hand.
+pub fn found_is_written()
+    ensures { TellsFound }
 {}
 
 /// While the number that tells of changes stays, a later history shows a submitter the same requests,

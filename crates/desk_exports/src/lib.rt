@@ -19,7 +19,7 @@ pub use answering::AnswersCalls;
 pub use export::Export;
 pub use laws::{
     exports_are_in_order, exports_are_spelt, exports_are_their_parts, exports_are_written,
-    lengths_come_true, lists_come_in_parts, minutes_come_in_parts, minutes_go_on,
+    found_is_written, lengths_come_true, lists_come_in_parts, minutes_come_in_parts, minutes_go_on,
     numbers_tell_of_changes, shim_revokes_the_same, waiting_is_written,
 };
 pub use octets::Octets;

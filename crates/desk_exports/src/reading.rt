@@ -1,5 +1,6 @@
 //! What a person can read of a desk.
 use crate::published::Published;
+use base::Digest;
 use desk_types::{ProposalNumber, RequestNumber};
 
 /// What a person asks to read of a desk. What the person is shown is `IsShownTo`
@@ -10,6 +11,10 @@ pub enum Reading {
     Requests,
     /// Of them those with this number or a later one, at most 1,000.
     RequestsFrom(u64),
+    /// Of them those that have this digest, at most the first 1,000: as the SHA-256 of the submitted
+    /// or of the returned file, as an Authenticode digest of their images, or as that of a
+    /// certificate that the submitted one carries.
+    RequestsWith(Digest),
     /// One of the requests.
     Request(RequestNumber),
     /// The proposals of officers.
