@@ -6,9 +6,9 @@ use Rattle.store_sql.specs.Meanings.{SelectsIn, SelectsRows}
 use Rattle.store_sql.proofs.BesideLemmas.{beside_any}
 use Rattle.store_sql.proofs.LayoutLemmas.{is_alone}
 use Rattle.store_schema.specs.Columns.{by_first, columns_after, columns_of, names_of}
-use Rattle.store_schema.specs.Named.{equals}
+use Rattle.store_schema.specs.Named.{column_named, equals}
 use Rattle.store_schema.specs.Tables.{desk_layout, first_layout, first_schema, desk, people, calls, requests, request_certificates, request_components, votes, returns, listed, revoked_digests, revoked_certificates, components, proposals, proposal_items}
-use Rattle.store_schema.specs.declared.selecting.TheConstants.{SELECT_DESK, SELECT_PERSON, SELECT_PERSON_OF_TOKEN, SELECT_PEOPLE, SELECT_CALL, SELECT_CALL_NUMBERED, SELECT_CALLS, SELECT_REQUEST, SELECT_REQUEST_CERTIFICATES, SELECT_REQUEST_COMPONENTS, SELECT_VOTES, SELECT_RETURN, SELECT_LISTED, SELECT_LISTED_OF, SELECT_REVOKED_DIGEST, SELECT_REVOKED_DIGESTS, SELECT_REVOKED_CERTIFICATE, SELECT_REVOKED_CERTIFICATES, SELECT_COMPONENT, SELECT_COMPONENTS, SELECT_PROPOSAL, SELECT_PROPOSALS, SELECT_PROPOSAL_ITEMS}
+use Rattle.store_schema.specs.declared.selecting.TheConstants.{SELECT_DESK, SELECT_PERSON, SELECT_PERSON_OF_TOKEN, SELECT_PEOPLE, SELECT_CALL, SELECT_CALL_NUMBERED, SELECT_CALLS, SELECT_REQUEST, SELECT_NUMBERS_OF_FILE, SELECT_NUMBERS_OF_DIGEST, SELECT_NUMBERS_OF_SIGNING, SELECT_REQUEST_CERTIFICATES, SELECT_NUMBERS_OF_CERTIFICATE, SELECT_REQUEST_COMPONENTS, SELECT_VOTES, SELECT_RETURN, SELECT_NUMBERS_OF_RETURNED_FILE, SELECT_NUMBERS_OF_RETURNED_DIGEST, SELECT_LISTED, SELECT_LISTED_OF, SELECT_REVOKED_DIGEST, SELECT_REVOKED_DIGESTS, SELECT_REVOKED_CERTIFICATE, SELECT_REVOKED_CERTIFICATES, SELECT_COMPONENT, SELECT_COMPONENTS, SELECT_PROPOSAL, SELECT_PROPOSALS, SELECT_PROPOSAL_ITEMS}
 
 pub select_desk : SelectsRows desk_layout 0 desk SELECT_DESK.now [] (by_first 1 desk) (columns_after 1 desk) (names_of desk)
 unfolding understood everything
@@ -48,9 +48,25 @@ pub select_request : SelectsRows desk_layout 3 requests SELECT_REQUEST.now (equa
 unfolding understood everything
 select_request = beside_any desk_layout _ (λ others refer. record { place = refl; means = refl; unlisted = refl; plain = (refl, refl); overlooks = λ _. tt; passes_over = λ _. tt })
 
+pub select_numbers_of_file : SelectsRows desk_layout 3 requests SELECT_NUMBERS_OF_FILE.now (equals requests (codes "file") 0 ∷ []) [] (column_named requests (codes "no") ∷ []) (codes "no" ∷ [])
+unfolding understood everything
+select_numbers_of_file = beside_any desk_layout _ (λ others refer. record { place = refl; means = refl; unlisted = refl; plain = (refl, refl); overlooks = λ _. tt; passes_over = λ _. tt })
+
+pub select_numbers_of_digest : SelectsRows desk_layout 3 requests SELECT_NUMBERS_OF_DIGEST.now (equals requests (codes "digest") 0 ∷ []) [] (column_named requests (codes "no") ∷ []) (codes "no" ∷ [])
+unfolding understood everything
+select_numbers_of_digest = beside_any desk_layout _ (λ others refer. record { place = refl; means = refl; unlisted = refl; plain = (refl, refl); overlooks = λ _. tt; passes_over = λ _. tt })
+
+pub select_numbers_of_signing : SelectsRows desk_layout 3 requests SELECT_NUMBERS_OF_SIGNING.now (equals requests (codes "signing") 0 ∷ []) [] (column_named requests (codes "no") ∷ []) (codes "no" ∷ [])
+unfolding understood everything
+select_numbers_of_signing = beside_any desk_layout _ (λ others refer. record { place = refl; means = refl; unlisted = refl; plain = (refl, refl); overlooks = λ _. tt; passes_over = λ _. tt })
+
 pub select_request_certificates : SelectsRows desk_layout 4 request_certificates SELECT_REQUEST_CERTIFICATES.now (equals request_certificates (codes "request") 0 ∷ []) (by_first 2 request_certificates) (columns_after 2 request_certificates) (names_of request_certificates)
 unfolding understood everything
 select_request_certificates = beside_any desk_layout _ (λ others refer. record { place = refl; means = refl; unlisted = refl; plain = (refl, refl); overlooks = λ _ _ _. refl; passes_over = λ _ _ _. refl })
+
+pub select_numbers_of_certificate : SelectsRows desk_layout 4 request_certificates SELECT_NUMBERS_OF_CERTIFICATE.now (equals request_certificates (codes "digest") 0 ∷ []) [] (column_named request_certificates (codes "request") ∷ []) (codes "request" ∷ [])
+unfolding understood everything
+select_numbers_of_certificate = beside_any desk_layout _ (λ others refer. record { place = refl; means = refl; unlisted = refl; plain = (refl, refl); overlooks = λ _ _ _. refl; passes_over = λ _ _ _. refl })
 
 pub select_request_components : SelectsRows desk_layout 5 request_components SELECT_REQUEST_COMPONENTS.now (equals request_components (codes "request") 0 ∷ []) (by_first 2 request_components) (columns_after 2 request_components) (names_of request_components)
 unfolding understood everything
@@ -63,6 +79,14 @@ select_votes = beside_any desk_layout _ (λ others refer. record { place = refl;
 pub select_return : SelectsRows desk_layout 7 returns SELECT_RETURN.now (equals returns (codes "request") 0 ∷ []) [] (columns_of returns) (names_of returns)
 unfolding understood everything
 select_return = beside_any desk_layout _ (λ others refer. record { place = refl; means = refl; unlisted = refl; plain = (refl, refl); overlooks = λ _. tt; passes_over = λ _. tt })
+
+pub select_numbers_of_returned_file : SelectsRows desk_layout 7 returns SELECT_NUMBERS_OF_RETURNED_FILE.now (equals returns (codes "file") 0 ∷ []) [] (column_named returns (codes "request") ∷ []) (codes "request" ∷ [])
+unfolding understood everything
+select_numbers_of_returned_file = beside_any desk_layout _ (λ others refer. record { place = refl; means = refl; unlisted = refl; plain = (refl, refl); overlooks = λ _. tt; passes_over = λ _. tt })
+
+pub select_numbers_of_returned_digest : SelectsRows desk_layout 7 returns SELECT_NUMBERS_OF_RETURNED_DIGEST.now (equals returns (codes "digest") 0 ∷ []) [] (column_named returns (codes "request") ∷ []) (codes "request" ∷ [])
+unfolding understood everything
+select_numbers_of_returned_digest = beside_any desk_layout _ (λ others refer. record { place = refl; means = refl; unlisted = refl; plain = (refl, refl); overlooks = λ _. tt; passes_over = λ _. tt })
 
 pub select_listed : SelectsRows desk_layout 8 listed SELECT_LISTED.now (equals listed (codes "kind") 0 ∷ equals listed (codes "digest") 1 ∷ []) [] (columns_of listed) (names_of listed)
 unfolding understood everything

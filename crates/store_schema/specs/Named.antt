@@ -16,9 +16,13 @@ abbrev pub place_of : List ℕ → List Column → ℕ
 place_of name [] = zero
 place_of name (c ∷ cs) = if bytes_eq c.name name then zero else suc (place_of name cs)
 
+-- the column of this name
+abbrev pub column_named : Table → List ℕ → Term
+column_named table name = column_at table.key (place_of name table.columns)
+
 -- WHERE column = ?parameter
 abbrev pub equals : Table → List ℕ → ℕ → Term
-equals table name parameter = op2 (Compare Eq Binary) (column_at table.key (place_of name table.columns)) (col 0 parameter)
+equals table name parameter = op2 (Compare Eq Binary) (column_named table name) (col 0 parameter)
 
 -- these columns as they are, the first of them at this place, but for the one at the place that is
 -- set: it becomes the parameter

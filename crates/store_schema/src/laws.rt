@@ -3,7 +3,7 @@
 ghost use Rattle.std.specs.Prelude.{[], ◌∷◌, codes};
 ghost use Rattle.store_sql.specs.Meanings.{CountsRows, DeletesRows, InsertsRow, SelectsRows, UpdatesRows};
 ghost use Rattle.store_schema.specs.Columns.{by_first, columns_after, columns_of, names_of, values_of};
-ghost use Rattle.store_schema.specs.Named.{equals, set_to};
+ghost use Rattle.store_schema.specs.Named.{column_named, equals, set_to};
 ghost use Rattle.store_schema.specs.Tables.{desk_layout, first_layout, desk, people, calls, requests, request_certificates, request_components, votes, returns, listed, revoked_digests, revoked_certificates, components, proposals, proposal_items, migrated};
 
 use crate::changing::{
@@ -22,7 +22,9 @@ use crate::inserting::{
 };
 use crate::selecting::{
     SELECT_CALL, SELECT_CALL_NUMBERED, SELECT_CALLS, SELECT_COMPONENT, SELECT_COMPONENTS,
-    SELECT_DESK, SELECT_LISTED, SELECT_LISTED_OF, SELECT_PEOPLE, SELECT_PERSON,
+    SELECT_DESK, SELECT_LISTED, SELECT_LISTED_OF, SELECT_NUMBERS_OF_CERTIFICATE,
+    SELECT_NUMBERS_OF_DIGEST, SELECT_NUMBERS_OF_FILE, SELECT_NUMBERS_OF_RETURNED_DIGEST,
+    SELECT_NUMBERS_OF_RETURNED_FILE, SELECT_NUMBERS_OF_SIGNING, SELECT_PEOPLE, SELECT_PERSON,
     SELECT_PERSON_OF_TOKEN, SELECT_PROPOSAL, SELECT_PROPOSAL_ITEMS, SELECT_PROPOSALS,
     SELECT_REQUEST, SELECT_REQUEST_CERTIFICATES, SELECT_REQUEST_COMPONENTS, SELECT_RETURN,
     SELECT_REVOKED_CERTIFICATE, SELECT_REVOKED_CERTIFICATES, SELECT_REVOKED_DIGEST,
@@ -68,20 +70,29 @@ pub fn calls_statements()
     ensures counted { CountsRows desk_layout 2 calls COUNT_CALLS.now [] (codes "count(*)" ∷ []) }
 {}
 
-/// Requests: put in, given a state, found by number, counted.
+/// Requests: put in, given a state, found by number, their numbers found by a digest, counted.
 pub fn requests_statements()
     ensures inserted { InsertsRow desk_layout 3 requests INSERT_REQUEST.now (values_of requests) }
     ensures decided { UpdatesRows desk_layout 3 requests UPDATE_STATE.now
         (equals requests (codes "no") 0 ∷ []) (set_to requests (codes "state") 1) }
     ensures numbered { SelectsRows desk_layout 3 requests SELECT_REQUEST.now
         (equals requests (codes "no") 0 ∷ []) [] (columns_of requests) (names_of requests) }
+    ensures of_file { SelectsRows desk_layout 3 requests SELECT_NUMBERS_OF_FILE.now
+        (equals requests (codes "file") 0 ∷ []) [] (column_named requests (codes "no") ∷ [])
+        (codes "no" ∷ []) }
+    ensures of_digest { SelectsRows desk_layout 3 requests SELECT_NUMBERS_OF_DIGEST.now
+        (equals requests (codes "digest") 0 ∷ []) [] (column_named requests (codes "no") ∷ [])
+        (codes "no" ∷ []) }
+    ensures of_signing { SelectsRows desk_layout 3 requests SELECT_NUMBERS_OF_SIGNING.now
+        (equals requests (codes "signing") 0 ∷ []) [] (column_named requests (codes "no") ∷ [])
+        (codes "no" ∷ []) }
     ensures counted { CountsRows desk_layout 3 requests COUNT_REQUESTS.now [] (codes "count(*)"
         ∷ []) }
     ensures counted_in { CountsRows desk_layout 3 requests COUNT_REQUESTS_IN.now
         (equals requests (codes "state") 0 ∷ []) (codes "count(*)" ∷ []) }
 {}
 
-/// Certificates of a request: put in, listed by digest.
+/// Certificates of a request: put in, listed by digest; the numbers of the requests with one.
 pub fn request_certificates_statements()
     ensures inserted { InsertsRow desk_layout 4 request_certificates INSERT_REQUEST_CERTIFICATE.now
         (values_of request_certificates) }
@@ -89,6 +100,9 @@ pub fn request_certificates_statements()
         SELECT_REQUEST_CERTIFICATES.now (equals request_certificates (codes "request") 0 ∷ [])
         (by_first 2 request_certificates) (columns_after 2 request_certificates)
         (names_of request_certificates) }
+    ensures of_certificate { SelectsRows desk_layout 4 request_certificates
+        SELECT_NUMBERS_OF_CERTIFICATE.now (equals request_certificates (codes "digest") 0 ∷ []) []
+        (column_named request_certificates (codes "request") ∷ []) (codes "request" ∷ []) }
 {}
 
 /// Components of a request: put in, listed by place.
@@ -108,11 +122,17 @@ pub fn votes_statements()
         (names_of votes) }
 {}
 
-/// Returned files: put in, found by their request.
+/// Returned files: put in, found by their request, the numbers of their requests found by a digest.
 pub fn returns_statements()
     ensures inserted { InsertsRow desk_layout 7 returns INSERT_RETURN.now (values_of returns) }
     ensures of_request { SelectsRows desk_layout 7 returns SELECT_RETURN.now
         (equals returns (codes "request") 0 ∷ []) [] (columns_of returns) (names_of returns) }
+    ensures of_file { SelectsRows desk_layout 7 returns SELECT_NUMBERS_OF_RETURNED_FILE.now
+        (equals returns (codes "file") 0 ∷ []) [] (column_named returns (codes "request") ∷ [])
+        (codes "request" ∷ []) }
+    ensures of_digest { SelectsRows desk_layout 7 returns SELECT_NUMBERS_OF_RETURNED_DIGEST.now
+        (equals returns (codes "digest") 0 ∷ []) [] (column_named returns (codes "request") ∷ [])
+        (codes "request" ∷ []) }
 {}
 
 /// Listed entries: put in, taken out, found by kind and digest, listed by digest for one kind,

@@ -1,4 +1,4 @@
-//! SELECT: whole rows, by key or in the order of the key.
+//! SELECT: whole rows, by key or in the order of the key; and numbers of requests, by a digest.
 
 /// Every row of the desk, by id.
 pub const SELECT_DESK: &str = "SELECT id, mark, version, owner, stamp FROM desk ORDER BY id";
@@ -27,9 +27,22 @@ pub const SELECT_CALLS: &str = "SELECT no, caller, key, text, reply FROM calls O
 pub const SELECT_REQUEST: &str =
     "SELECT no, submitter, title, length, gap, file, digest, signing, state FROM requests WHERE no = ?1";
 
+/// The numbers of the requests with the digest of a file (`?1`).
+pub const SELECT_NUMBERS_OF_FILE: &str = "SELECT no FROM requests WHERE file = ?1";
+
+/// The numbers of the requests with an image's digest (`?1`).
+pub const SELECT_NUMBERS_OF_DIGEST: &str = "SELECT no FROM requests WHERE digest = ?1";
+
+/// The numbers of the requests with the digest that a signature of an image holds (`?1`).
+pub const SELECT_NUMBERS_OF_SIGNING: &str = "SELECT no FROM requests WHERE signing = ?1";
+
 /// The certificates of a request (`?1`), by digest.
 pub const SELECT_REQUEST_CERTIFICATES: &str =
     "SELECT request, digest FROM request_certificates WHERE request = ?1 ORDER BY request, digest";
+
+/// The numbers of the requests whose image carries a certificate (`?1`).
+pub const SELECT_NUMBERS_OF_CERTIFICATE: &str =
+    "SELECT request FROM request_certificates WHERE digest = ?1";
 
 /// The components of a request (`?1`), by place.
 pub const SELECT_REQUEST_COMPONENTS: &str =
@@ -42,6 +55,12 @@ pub const SELECT_VOTES: &str =
 /// The file that was returned for a request (`?1`).
 pub const SELECT_RETURN: &str =
     "SELECT request, signer, length, file, digest FROM returns WHERE request = ?1";
+
+/// The numbers of the requests with the digest of a returned file (`?1`).
+pub const SELECT_NUMBERS_OF_RETURNED_FILE: &str = "SELECT request FROM returns WHERE file = ?1";
+
+/// The numbers of the requests with the digest of a returned image (`?1`).
+pub const SELECT_NUMBERS_OF_RETURNED_DIGEST: &str = "SELECT request FROM returns WHERE digest = ?1";
 
 /// The entry with a kind (`?1`) and a digest (`?2`).
 pub const SELECT_LISTED: &str =
