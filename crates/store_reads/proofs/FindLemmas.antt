@@ -4,12 +4,13 @@ use Rattle.std.specs.List.Sorted.{IsPermutation}
 use Rattle.std.specs.List.{All}
 use Rattle.std.proofs.lemmas.List.Elements.{All-head}
 use Rattle.std.proofs.lemmas.List.Sums.{length-filter}
-use Rattle.std.proofs.lemmas.List.Sorted.{IsPermutation-sym, length_permutation}
+use Rattle.std.proofs.lemmas.List.Sorted.{IsPermutation-map, IsPermutation-sym, length_permutation}
 use Rattle.sqlite.proofs.Callers.{one_permutation}
 use Rattle.sqlite.specs.Order.{Row}
 use Rattle.sqlite.specs.State.{State}
 use Rattle.sqlite.specs.Table.{Table}
 use Rattle.sqlite.specs.Term.{Term}
+use Rattle.sqlite_trees.proofs.ListLemmas.{map-map}
 use Rattle.desk_history.specs.Tables.{Tables}
 use Rattle.store_schema.specs.rows.Contents.{contents}
 use Rattle.store_sql.specs.Effects.{passes, shown_of, counted}
@@ -49,6 +50,21 @@ module _ {X : Type 0} (at : ℕ) (table : Table) (text : List ℕ) (terms : List
   tells_row found f =
       let it = tells_rows (listed found) f in
       record { kept = it.kept; tells = λ t sees. alone (filter p (part t)) found (it.tells t sees).all }
+
+-- what a query in no order shows of each row that meets the condition
+pub tells_each : {X Y : Type 0} (at : ℕ) (table : Table) (text : List ℕ) (terms rest : List Term) (names : List (List ℕ)) → SelectsRows desk_layout at table text terms [] rest names
+    → (item : X → Row) (of : X → Y) (shown : Y → Row) (part : Tables → List X) → ((t : Tables) → slice_get (contents t) at ≡ Some (map item (part t)))
+    → (params : Row) → ((x : X) → shown_of table rest params (item x) ≡ shown (of x)) → (p : X → Bool) → ((x : X) → passes table terms params (item x) ≡ p x)
+    → (old new : State) (values : List Y) → Finds shown text params values old new → ReadsTables (λ t. IsPermutation (map of (filter p (part t))) values) old new
+tells_each at table text terms rest names means item of shown part has params shows p tested old new values f =
+    let it = f.selects desk_layout at table terms [] rest names means in
+    record {
+      kept = turns desk_layout contents contents (λ c. c) old new it.0 (λ t. refl);
+      tells = λ t sees.
+          let ys = lists table terms params item p tested [] rest (λ x. shown (of x)) shows (part t) f.answer (it.1 (contents t) (map item (part t)) sees (has t)) in
+          let same : values ≡ map of ys.0 = f.read.only (map of ys.0) (ys.2 ∙ sym (map-map shown of ys.0)) in
+          subst (IsPermutation (map of (filter p (part t)))) (sym same) (IsPermutation-map of (filter p (part t)) ys.0 ys.1);
+    }
 
 -- ---- counts
 

@@ -58,6 +58,28 @@ is_vote k x = only _ _ (int_is x.request k)
 pub is_return : (k : ℕ) (x : ReturnRow) → passes tables.returns (equals tables.returns (codes "request") 0 ∷ []) (Int (pos k) ∷ []) (values.return_values x) ≡ (k == x.request)
 is_return k x = only _ _ (int_is x.request k)
 
+-- those that have a digest
+
+pub has_file : (digest : List ℕ) (x : RequestRow) → passes tables.requests (equals tables.requests (codes "file") 0 ∷ []) (Blob digest ∷ []) (values.request_values x) ≡ bytes_eq digest x.file
+has_file digest x = only _ _ (blob_is x.file digest)
+
+pub has_digest : (digest : List ℕ) (x : RequestRow) → passes tables.requests (equals tables.requests (codes "digest") 0 ∷ []) (Blob digest ∷ []) (values.request_values x) ≡ bytes_eq digest x.digest
+has_digest digest x = only _ _ (blob_is x.digest digest)
+
+pub has_signing : (digest : List ℕ) (x : RequestRow) → passes tables.requests (equals tables.requests (codes "signing") 0 ∷ []) (Blob digest ∷ []) (values.request_values x) ≡ bytes_eq digest x.signing
+has_signing digest x = only _ _ (blob_is x.signing digest)
+
+pub has_returned_file : (digest : List ℕ) (x : ReturnRow) → passes tables.returns (equals tables.returns (codes "file") 0 ∷ []) (Blob digest ∷ []) (values.return_values x) ≡ bytes_eq digest x.file
+has_returned_file digest x = only _ _ (blob_is x.file digest)
+
+pub has_returned_digest : (digest : List ℕ) (x : ReturnRow) → passes tables.returns (equals tables.returns (codes "digest") 0 ∷ []) (Blob digest ∷ []) (values.return_values x) ≡ bytes_eq digest x.digest
+has_returned_digest digest x = only _ _ (blob_is x.digest digest)
+
+pub has_certificate : (digest : List ℕ) (x : RequestCertificateRow) → passes tables.request_certificates (equals tables.request_certificates (codes "digest") 0 ∷ []) (Blob digest ∷ []) (values.request_certificate_values x) ≡ bytes_eq digest x.digest
+has_certificate digest x = only _ _ (blob_is x.digest digest)
+
+-- those in a state
+
 states_differ : (s t : State) → bytes_eq (state_text s) (state_text t) ≡ is_state s t
 states_differ states.Open states.Open = refl
 states_differ states.Open states.Approved = refl

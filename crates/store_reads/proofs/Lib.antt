@@ -5,6 +5,7 @@ pub mod OwnLemmas
 pub mod KeyLemmas
 pub mod CountLemmas
 pub mod RevokedLemmas
+pub mod NumberLemmas
 pub mod CallLemmas
 pub mod ProposalLemmas
 pub mod PartLemmas

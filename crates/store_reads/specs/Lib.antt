@@ -6,4 +6,5 @@ pub mod People
 pub mod CallColumns
 pub mod ProposalColumns
 pub mod Failures
+pub mod Numbers
 pub mod Counting

@@ -1,6 +1,7 @@
-//! Rows of requests, and of their certificates, components, votes and files.
+//! Rows of requests, or their numbers alone; of their certificates, components, votes and files.
 ghost use Rattle.store_schema.specs.rows.Values.{request_certificate_values, request_component_values, vote_values};
 ghost use Rattle.store_reads.specs.Answers.{request_columns, return_columns};
+ghost use Rattle.store_reads.specs.Numbers.{number_values};
 
 use crate::ReadFault;
 use crate::columns::{
@@ -9,6 +10,7 @@ use crate::columns::{
 };
 use crate::from_row::FromRow;
 use desk_history::{RequestCertificateRow, RequestComponentRow, RequestRow, ReturnRow, VoteRow};
+use desk_types::RequestNumber;
 use sqlite::Row;
 use std::alloc::Global;
 
@@ -39,6 +41,18 @@ impl FromRow for RequestRow {
             signing,
             state,
         })
+    }
+}
+
+impl FromRow for RequestNumber {
+    ghost shown = { number_values };
+
+    fn from_row(_alloc: Global, row: &Row) -> Result<RequestNumber, ReadFault> {
+        if row.column_count() != 1 {
+            return Err(ReadFault::Row);
+        }
+        let number = request_at(row, 0)?;
+        Ok(number)
     }
 }
 
