@@ -10,6 +10,7 @@ mod OrderLemmas
 mod PartLemmas
 mod PeopleLemmas
 mod ProposedLemmas
+mod SearchLemmas
 mod TellsLemmas
 mod VoteLemmas
 mod WaitingLemmas

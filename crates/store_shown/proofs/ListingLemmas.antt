@@ -1,9 +1,8 @@
 -- The answers to a person who asks for requests: all, those from a number on, and those that wait.
-use Rattle.std.proofs.Common.{◌≡◌, ◌⊎◌, inl, inr, ℕ, suc, ◌+◌, ◌-◌, ◌<◌, ◌≤◌, ◌==◌, ◌&&◌, ◌||◌, Bool, true, false, not, cond, List, [], ◌∷◌, ◌++◌, map, filter, length, take, drop, min, Option, Some, None, Result, Ok, Err, refl, sym, ap, ap₂, subst, ◌∙◌, length-append, append-nil, arith, true≢false}
+use Rattle.std.proofs.Common.{◌≡◌, ◌⊎◌, inl, inr, ℕ, suc, ◌+◌, ◌-◌, ◌<◌, ◌≤◌, ◌==◌, ◌&&◌, ◌||◌, Bool, true, false, not, cond, List, [], ◌∷◌, ◌++◌, map, filter, length, take, drop, min, Option, Some, None, option_map, Result, Ok, Err, refl, sym, ap, ap₂, subst, ◌∙◌, arith, true≢false}
 use Rattle.std.specs.Prelude.{bytes_eq, nat_le, ok_or, reverse}
 use Rattle.std.specs.List.{AllByRecursion, AllZip, list_any}
 use Rattle.std.specs.Result.{result_map_both}
-use Rattle.std.specs.List.Sorted.{IsPermutation}
 use Rattle.std.proofs.lemmas.List.{length-drop, length-map, length-reverse, map-append, reverse-append, take-append-drop, take_all}
 use Rattle.std.proofs.lemmas.List.Elements.{filter-append}
 use Rattle.std.proofs.lemmas.List.Sorted.{IsPermutation-reverse, list_any-IsPermutation}
@@ -21,18 +20,18 @@ use Rattle.desk_types.specs.declared.shown.ShownVote.{ShownVote}
 use Rattle.desk_types.specs.declared.state.State.{State}
 use Rattle.desk_history.specs.Calls.{History}
 use Rattle.desk_history.specs.Formed.{IsHistory}
+use Rattle.desk_exports.specs.DigestSearch as search
 use Rattle.desk_exports.specs.ListParts.{most_of_part, part_from, request_number, requests_from}
 use Rattle.desk_history.specs.People.{has_name, people}
-use Rattle.desk_history.specs.Requests.{Request, Submitted, is_vote_of, numbered, requests, state, submitted}
-use Rattle.desk_history.specs.Shown.{IsGiven, IsShown, Whole, is_shown_to, requests_for, sees, shown_vote, whole, wholes}
+use Rattle.desk_history.specs.Requests.{Request, Returned, Submitted, numbered, requests, state, submitted}
+use Rattle.desk_history.specs.Shown.{IsGiven, IsShown, Whole, is_shown_to, requests_for, sees, shown_return, shown_vote, whole, wholes}
 use Rattle.desk_history.specs.Tables.{tables}
 use Rattle.desk_exports.specs.Waiting as waiting
 use Rattle.desk_history.specs.declared.rows.RequestRow.{RequestRow}
-use Rattle.desk_history.specs.declared.rows.VoteRow.{VoteRow}
 use Rattle.store_reads.specs.Reads.{listed}
 use Rattle.store_proposals.proofs.PlaceLemmas as place
 use Rattle.desk_exports.specs.Readings.{HoldsShown}
-use Rattle.store_shown.specs.Choosing.{ListsUpTo, has_voted, keeps_shown, picks_row}
+use Rattle.store_shown.specs.Choosing.{ListsUpTo, has_digest, has_voted, is_of_return, keeps_shown, picks_row}
 use Rattle.store_shown.specs.Steps.{IsShownIn, rows_at}
 use Rattle.store_shown.specs.declared.choice.Choice.{Choice}
 use Rattle.store_shown.specs.declared.choice.Choice.TheVariants as choices
@@ -84,7 +83,7 @@ pub filter_both : {X : Type 0} (a b : X → Bool) (xs : List X) → filter (λ y
 filter_both a b [] = refl
 filter_both a b (x ∷ xs) = both_next a b x xs (filter_both a b xs) (a x) (b x) refl refl
 
-within_next : {X : Type 0} (p q : X → Bool) (x : X) (xs : List X) → (p x ≡ true → q x ≡ true) → filter p (filter q xs) ≡ filter p xs → (a b : Bool) → p x ≡ a → q x ≡ b
+pub within_next : {X : Type 0} (p q : X → Bool) (x : X) (xs : List X) → (p x ≡ true → q x ≡ true) → filter p (filter q xs) ≡ filter p xs → (a b : Bool) → p x ≡ a → q x ≡ b
     → filter p (filter q (x ∷ xs)) ≡ filter p (x ∷ xs)
 within_next p q x xs wider more true true h k = ap (filter p) (keeps q x xs k) ∙ keeps p x (filter q xs) h ∙ ap (λ l. x ∷ l) more ∙ sym (keeps p x xs h)
 within_next p q x xs wider more true false h k = absurd (true≢false (sym (wider h) ∙ k))
@@ -104,7 +103,7 @@ pub fewer : {X : Type 0} (p : X → Bool) (xs : List X) → length (filter p xs)
 fewer p [] = omega arith
 fewer p (x ∷ xs) = fewer_next p x xs (fewer p xs) (p x)
 
-zip_length : {A B : Type 0} (P : A → B → Type 0) (xs : List A) (ys : List B) → AllZip P xs ys → length xs ≡ length ys
+pub zip_length : {A B : Type 0} (P : A → B → Type 0) (xs : List A) (ys : List B) → AllZip P xs ys → length xs ≡ length ys
 zip_length P [] [] z = refl
 zip_length P [] (y ∷ ys) z = absurd z
 zip_length P (x ∷ xs) [] z = absurd z
@@ -118,7 +117,7 @@ module _ {A B : Type 0} (P : A → B → Type 0) (p : A → Bool) (q : B → Boo
       subst (λ l. AllZip P l (filter q (y ∷ ys))) (sym (drops p x xs is)) (subst (AllZip P (filter p xs)) (sym (drops q y ys (same x y h ∙ is))) more)
 
   -- a relation of two lists holds of what passes tests that agree
-  zip_filter : (xs : List A) (ys : List B) → AllZip P xs ys → AllZip P (filter p xs) (filter q ys)
+  pub zip_filter : (xs : List A) (ys : List B) → AllZip P xs ys → AllZip P (filter p xs) (filter q ys)
   zip_filter [] [] z = tt
   zip_filter [] (y ∷ ys) z = absurd z
   zip_filter (x ∷ xs) [] z = absurd z
@@ -127,17 +126,26 @@ module _ {A B : Type 0} (P : A → B → Type 0) (p : A → Bool) (q : B → Boo
 -- ---- what is kept
 
 -- the request is listed, if its row may be
-abbrev keeps_whole : Choice → Person → Whole → Bool
+abbrev pub keeps_whole : Choice → Person → Whole → Bool
 keeps_whole choices.Shown p w = true
 keeps_whole choices.Waiting p w = not (waiting.has_voted p w)
+keeps_whole (choices.With d) p w = search.has_digest d w
 
 votes_alike : (p : Person) (w : Whole) (s : ShownRequest) → IsShown w s → has_voted p s.votes ≡ waiting.has_voted p w
 votes_alike p w s h =
     sym (list_any-IsPermutation (λ (v : ShownVote). bytes_eq p.name v.reviewer) (map shown_vote w.votes) s.votes h.votes) ∙ any_map shown_vote (λ (v : ShownVote). bytes_eq p.name v.reviewer) w.votes
 
-kept_alike : (choice : Choice) (p : Person) (w : Whole) (s : ShownRequest) → IsShown w s → keeps_shown choice p s ≡ keeps_whole choice p w
+return_alike : (d : List ℕ) (o : Option Returned) → is_of_return d (option_map shown_return o) ≡ search.is_of_returned d o
+return_alike d None = refl
+return_alike d (Some r) = refl
+
+digests_alike : (d : List ℕ) (w : Whole) (s : ShownRequest) → IsShown w s → has_digest d s ≡ search.has_digest d w
+digests_alike d w s h = ap₂ ◌||◌ (ap (search.is_of_facts d) h.facts) (ap (is_of_return d) h.returned ∙ return_alike d w.returned)
+
+pub kept_alike : (choice : Choice) (p : Person) (w : Whole) (s : ShownRequest) → IsShown w s → keeps_shown choice p s ≡ keeps_whole choice p w
 kept_alike choices.Shown p w s h = refl
 kept_alike choices.Waiting p w s h = ap not (votes_alike p w s h)
+kept_alike (choices.With d) p w s h = digests_alike d w s h
 
 -- ---- rows, and the requests shown of them
 
@@ -161,7 +169,7 @@ module _ (owner : List ℕ) (cs : History) (p : Person) where
   pub row_alone : (r : Request) → IsAlone r → place.IsAt number (row_of cs) at r
   row_alone r only = filter-map (λ (x : RequestRow). r.number == x.number) (row_of cs) (requests cs) ∙ ap (map (row_of cs)) only
 
-  each_shown : IsHistory cs → (rs : List Request) → AllByRecursion IsAlone rs → (given : List ShownRequest) → AllZip (IsShownIn (tables owner cs)) (map (row_of cs) rs) given
+  pub each_shown : IsHistory cs → (rs : List Request) → AllByRecursion IsAlone rs → (given : List ShownRequest) → AllZip (IsShownIn (tables owner cs)) (map (row_of cs) rs) given
       → AllZip IsShown (map (whole cs) rs) given
   each_shown h [] only [] z = tt
   each_shown h [] only (s ∷ given) z = absurd z

@@ -1,6 +1,5 @@
 -- The reads of a request, part by part. Auditors needn't believe these words.
-use Rattle.std.specs.Prelude.{◌≡◌, ℕ, ◌+◌, ◌==◌, ⊤, Bool, true, false, List, [], ◌∷◌, ◌++◌, map, filter, length, bytes_eq, if◌then◌else◌, Option, Some, None, option_map, MatchOption, IsTrue}
-use Rattle.std.specs.List.{AllZip}
+use Rattle.std.specs.Prelude.{◌≡◌, ℕ, ◌==◌, Bool, List, map, filter, bytes_eq, if◌then◌else◌, Option, Some, None, option_map, MatchOption, IsTrue}
 use Rattle.std.specs.List.Sorted.{IsPermutation}
 use Rattle.base.specs.Digests.{IsArranged}
 use Rattle.desk_types.specs.declared.command.Person.{Person}

@@ -28,17 +28,17 @@ pub(crate) const MOST_OF_PART: u64 = 1_000;
 /// votes, and what else it has, are read only where its row may be.
 ///
 /// `Row`: no request has the number.
-fn take_numbered<S: Alter, L: RequestList>(
+pub(crate) fn take_numbered<S: Alter, L: RequestList>(
     alloc: Global,
     tx: &mut Transaction<'_, S>,
     reader: &Person,
-    choice: Choice,
+    choice: &Choice,
     number: u64,
     list: &mut L,
 ) -> Result<bool, ReadFault>
     ensures same_reference { tx.new.conn.ghost_name ≡ tx.old.conn.ghost_name }
     ensures value { DoesInside S.Store tx.old.conn.now tx.new.conn.now result
-        (λ is_taken. ReadsTables (λ t. TakesNumbered choice reader.now t number
+        (λ is_taken. ReadsTables (λ t. TakesNumbered choice.now reader.now t number
         (L.RequestList.holds list.old) (L.RequestList.holds list.new) is_taken)) }
     ensures kept { CommitsNothing S.Store tx.old.conn.now tx.new.conn.now }
     ensures survives { Spares S.Store tx.old.conn.now tx.new.conn.now }
@@ -67,7 +67,7 @@ pub(crate) fn list_after<S: Alter, L: RequestList + Drop>(
     alloc: Global,
     tx: &mut Transaction<'_, S>,
     reader: &Person,
-    choice: Choice,
+    choice: &Choice,
     passed: u64,
     last: u64,
     most: u64,
@@ -75,7 +75,7 @@ pub(crate) fn list_after<S: Alter, L: RequestList + Drop>(
     requires { passed ≤ last }
     ensures same_reference { tx.new.conn.ghost_name ≡ tx.old.conn.ghost_name }
     ensures value { DoesInside S.Store tx.old.conn.now tx.new.conn.now result
-        (λ list. ReadsTables (λ t. ListsUpTo choice reader.now t passed last most
+        (λ list. ReadsTables (λ t. ListsUpTo choice.now reader.now t passed last most
         (L.RequestList.holds list))) }
     ensures kept { CommitsNothing S.Store tx.old.conn.now tx.new.conn.now }
     ensures survives { Spares S.Store tx.old.conn.now tx.new.conn.now }
@@ -129,7 +129,7 @@ pub fn requests_of<S: Alter, L: RequestList + Drop>(
         return Ok(Err(Refusal::UnknownCaller));
     };
     let count = count(tx, Counted::Requests)?;
-    let list = list_after(alloc, tx, &reader, Choice::Shown, 0, count, count)?;
+    let list = list_after(alloc, tx, &reader, &Choice::Shown, 0, count, count)?;
     Ok(Ok(list))
 }
 
@@ -164,7 +164,7 @@ pub fn requests_from<S: Alter, L: RequestList + Drop>(
         alloc,
         tx,
         &reader,
-        Choice::Shown,
+        &Choice::Shown,
         passed,
         count,
         MOST_OF_PART,

@@ -40,7 +40,7 @@ fn requests_for<S: Alter, L: RequestList + Drop>(
     ensures survives { Spares S.Store tx.old.conn.now tx.new.conn.now }
 {
     let count = count(tx, Counted::Requests)?;
-    let list = list_after(alloc, tx, reader, Choice::Waiting, 0, count, count)?;
+    let list = list_after(alloc, tx, reader, &Choice::Waiting, 0, count, count)?;
     Ok(list)
 }
 

@@ -13,7 +13,7 @@ use Rattle.store_shown.proofs.listing.list_after.Goals as goal
 pub loop-number-init : goal.loop-number-init
 loop-number-init g c =
     let first = state g.S.Store c.args.tx.now.conn.now in
-    let choice = c.args.choice in
+    let choice = c.args.choice.now in
     let reader = c.args.reader.now in
     let k = c.args.passed in
     let holds = g.L.RequestList.holds c.new-list.result in
@@ -25,7 +25,7 @@ loop-number-preserved g c =
     let first = state g.S.Store c.args.tx.now.conn.now in
     let mid = state g.S.Store at.tx.conn.now in
     let new = state g.S.Store c.take_numbered.new.tx.conn.now in
-    let choice = c.args.choice in
+    let choice = c.args.choice.now in
     let reader = c.args.reader.now in
     let k = c.args.passed in
     let n = at.number in
@@ -60,7 +60,7 @@ returns-then-many-most-clause-value g c clean inside =
     let within = at.invariant.0 in
     let few = at.invariant.1 in
     let full : many ≡ c.args.most = omega (arith, c.if-many-most.true) in
-    tells_so first (state g.S.Store at.tx.conn.now) (λ t. ListsAfter c.args.choice c.args.reader.now t c.args.passed n many (g.L.RequestList.holds at.list)) (λ t. ListsUpTo c.args.choice c.args.reader.now t c.args.passed c.args.last c.args.most (g.L.RequestList.holds at.list))
+    tells_so first (state g.S.Store at.tx.conn.now) (λ t. ListsAfter c.args.choice.now c.args.reader.now t c.args.passed n many (g.L.RequestList.holds at.list)) (λ t. ListsUpTo c.args.choice.now c.args.reader.now t c.args.passed c.args.last c.args.most (g.L.RequestList.holds at.list))
     (λ t it. record { reached = n; many = many; lists = it; within = within; few = few; ends = inl full }) (at.invariant.4 clean inside)
 
 pub returns-clause-value : goal.returns-clause-value
@@ -72,5 +72,5 @@ returns-clause-value g c clean inside =
     let within = at.invariant.0 in
     let few = at.invariant.1 in
     let done : n ≡ c.args.last = omega (arith, within, c.loop-number-test.false) in
-    tells_so first (state g.S.Store at.tx.conn.now) (λ t. ListsAfter c.args.choice c.args.reader.now t c.args.passed n many (g.L.RequestList.holds at.list)) (λ t. ListsUpTo c.args.choice c.args.reader.now t c.args.passed c.args.last c.args.most (g.L.RequestList.holds at.list))
+    tells_so first (state g.S.Store at.tx.conn.now) (λ t. ListsAfter c.args.choice.now c.args.reader.now t c.args.passed n many (g.L.RequestList.holds at.list)) (λ t. ListsUpTo c.args.choice.now c.args.reader.now t c.args.passed c.args.last c.args.most (g.L.RequestList.holds at.list))
     (λ t it. record { reached = n; many = many; lists = it; within = within; few = few; ends = inr done }) (at.invariant.4 clean inside)

@@ -11,7 +11,7 @@ use Rattle.store_shown.proofs.listing.take_numbered.Goals as goal
 
 pub returns-then-not-picks_row-clause-value : goal.returns-then-not-picks_row-clause-value
 returns-then-not-picks_row-clause-value g c clean inside =
-    let choice = c.args.choice in
+    let choice = c.args.choice.now in
     let reader = c.args.reader.now in
     let n = c.in-Some.number in
     let found = c.in_ok-row.field-0 in
@@ -25,7 +25,7 @@ returns-then-not-picks_row-clause-value g c clean inside =
 
 pub returns-then-not-keeps_shown-clause-value : goal.returns-then-not-keeps_shown-clause-value
 returns-then-not-keeps_shown-clause-value g c clean inside =
-    let choice = c.args.choice in
+    let choice = c.args.choice.now in
     let reader = c.args.reader.now in
     let n = c.in-Some.number in
     let found = c.in_ok-row.field-0 in
@@ -46,7 +46,7 @@ returns-then-not-keeps_shown-clause-value g c clean inside =
 
 pub returns-in-Ok-clause-value : goal.returns-in-Ok-clause-value
 returns-in-Ok-clause-value g c clean inside =
-    let choice = c.args.choice in
+    let choice = c.args.choice.now in
     let reader = c.args.reader.now in
     let n = c.in-Some.number in
     let found = c.in_ok-row.field-0 in
