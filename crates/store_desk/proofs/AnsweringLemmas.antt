@@ -41,6 +41,7 @@ not_true h = cc
 never_reopen : (reading : Reading) → IsTrue (may_refuse reading refusals.Reopen) → ⊥
 never_reopen read.Requests h = not_true h
 never_reopen (read.RequestsFrom n) h = not_true h
+never_reopen (read.RequestsWith digest) h = not_true h
 never_reopen (read.Request k) h = not_true h
 never_reopen read.Proposals h = not_true h
 never_reopen (read.ProposalsFrom n) h = not_true h

@@ -75,6 +75,7 @@ impact_refused r (inr (inr failed)) = inr failed
 no_store : (reading : Reading) → IsTrue (may_refuse reading refusals.Store) → ⊥
 no_store read.Requests h = not_true h
 no_store (read.RequestsFrom n) h = not_true h
+no_store (read.RequestsWith digest) h = not_true h
 no_store (read.Request k) h = not_true h
 no_store read.Proposals h = not_true h
 no_store (read.ProposalsFrom n) h = not_true h

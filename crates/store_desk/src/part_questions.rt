@@ -1,7 +1,9 @@
-//! A person's questions about lists in parts, about what waits, and about changes.
+//! A person's questions about lists in parts, about the requests that have a digest, about what
+//! waits, and about changes.
 ghost use Rattle.std.specs.Prelude.{◌≡◌, map};
 ghost use Rattle.desk_exports.specs.Readings.{HoldsShown};
 ghost use Rattle.desk_exports.specs.Changes.{changes_for};
+ghost use Rattle.desk_exports.specs.DigestSearch as search;
 ghost use Rattle.desk_exports.specs.ListParts as part;
 ghost use Rattle.desk_history.specs.Shown.{IsGiven, shown_proposal};
 ghost use Rattle.desk_exports.specs.Waiting.{waiting_for};
@@ -10,14 +12,14 @@ ghost use Rattle.store_shown.specs.Waits.{ShowsWaiting};
 ghost use Rattle.desk_types.specs.declared.caller.Caller.TheVariants as callers;
 
 use crate::person_questions::PersonQuestion;
-use base::Refusal;
+use base::{Digest, Refusal};
 use desk_exports::RequestList;
 use desk_types::{Person, PersonName, Proposal};
 use sqlite::{Alter, Transaction};
 use std::alloc::Global;
 use std::marker::PhantomData;
 use store_reads::ReadFault;
-use store_shown::{Waits, changes_of, proposals_from, requests_from, waiting_of};
+use store_shown::{Waits, changes_of, proposals_from, requests_from, requests_with, waiting_of};
 
 /// Which requests from this number on is the person shown? They are collected into an `L`.
 #[derive(Drop)]
@@ -43,6 +45,33 @@ impl<L: RequestList + Drop> PersonQuestion for PartOfRequests<L> {
         name: &PersonName,
     ) -> Result<Result<L, Refusal>, ReadFault> {
         requests_from(alloc, tx, kept_person, name, self.number)
+    }
+}
+
+/// Which requests that have this digest is the person shown? They are collected into an `L`.
+#[derive(Drop)]
+pub(crate) struct RequestsWith<L> {
+    pub(crate) digest: Digest,
+    pub(crate) list: PhantomData<L>,
+}
+
+impl<L: RequestList + Drop> PersonQuestion for RequestsWith<L> {
+    type Given = L;
+
+    ghost reading = { λ q. read.RequestsWith q.digest };
+
+    ghost gives = { λ q name cs given.
+        IsGiven (search.requests_with cs (callers.Person name) q.digest) given
+        (HoldsShown L.RequestList.holds) };
+
+    fn read_for<S: Alter>(
+        &self,
+        alloc: Global,
+        tx: &mut Transaction<'_, S>,
+        kept_person: Option<&Person>,
+        name: &PersonName,
+    ) -> Result<Result<L, Refusal>, ReadFault> {
+        requests_with(alloc, tx, kept_person, name, &self.digest)
     }
 }
 

@@ -7,7 +7,9 @@ ghost use Rattle.store_desk.specs.Showing.{RefusesDue};
 
 use crate::desk::Desk;
 use crate::officer_questions::{AllPeople, MinutesFrom, OneProposal};
-use crate::part_questions::{ChangesFor, PartOfProposals, PartOfRequests, WaitingFor};
+use crate::part_questions::{
+    ChangesFor, PartOfProposals, PartOfRequests, RequestsWith, WaitingFor,
+};
 use crate::questions::{AllProposals, AllRequests, OneRequest};
 use base::Refusal;
 use desk_exports::{Reading, RequestList, Shown};
@@ -18,11 +20,12 @@ use std::marker::PhantomData;
 
 impl<S: Alter + Drop> Desk<S> {
     /// What the person is shown, each as the call of its name gives it: `requests_of`,
-    /// `requests_from`, `request`, `proposals`, `proposals_from`, `proposal`, `impact`, `waiting`,
-    /// `changes`, `export` into memory, `report`, `minutes_from`, `people`; the person's own name and
-    /// role by none. Requests are collected into an `L`. The report is for officers: anybody else
-    /// gets `NotYourRole`, even from a desk that has to be opened again, and so gets everybody their
-    /// own name and role. Nothing is changed. Takes memory for what is shown.
+    /// `requests_from`, `requests_with`, `request`, `proposals`, `proposals_from`, `proposal`,
+    /// `impact`, `waiting`, `changes`, `export` into memory, `report`, `minutes_from`, `people`; the
+    /// person's own name and role by none. Requests are collected into an `L`. The report is for
+    /// officers: anybody else gets `NotYourRole`, even from a desk that has to be opened again, and
+    /// so gets everybody their own name and role. Nothing is changed. Takes memory for what is
+    /// shown, and for a search of requests by a digest.
     ///
     /// `NotYourRole`, `UnknownCaller`, `NoSuchRequest`, `NoSuchProposal`, `ProposalClosed`,
     /// `AlreadyRevoked`, `NotHigher`, `StampNotLater`, `Full`: as those calls say. `NoMemory`:
@@ -48,6 +51,13 @@ impl<S: Alter + Drop> Desk<S> {
             Reading::RequestsFrom(number) => {
                 let question: PartOfRequests<L> = PartOfRequests {
                     number,
+                    list: PhantomData,
+                };
+                self.show(&person, &question)
+            }
+            Reading::RequestsWith(digest) => {
+                let question: RequestsWith<L> = RequestsWith {
+                    digest,
                     list: PhantomData,
                 };
                 self.show(&person, &question)

@@ -1,9 +1,10 @@
-//! A desk's requests and proposals in parts, what waits, and a number that tells of changes, as a
-//! person may see them.
+//! A desk's requests and proposals in parts, the requests that have a digest, what waits, and a
+//! number that tells of changes, as a person may see them.
 ghost use Rattle.std.specs.Prelude.{◌≡◌, ◌≢◌, Err, IfErr, IfOk, MatchResult, Ok, map};
 ghost use Rattle.sqlite.specs.Held.{state};
 ghost use Rattle.sqlite.specs.State.{HasCleanDisk};
 ghost use Rattle.desk_exports.specs.Changes.{changes_for};
+ghost use Rattle.desk_exports.specs.DigestSearch as search;
 ghost use Rattle.desk_exports.specs.ListParts as part;
 ghost use Rattle.desk_history.specs.Shown.{shown_proposal};
 ghost use Rattle.desk_exports.specs.Waiting.{waiting_for};
@@ -15,8 +16,10 @@ ghost use Rattle.store_desk.specs.Showing.{IsReadingRefusal};
 ghost use Rattle.store_shown.specs.Waits.{ShowsWaiting};
 
 use crate::desk::Desk;
-use crate::part_questions::{ChangesFor, PartOfProposals, PartOfRequests, WaitingFor};
-use base::Refusal;
+use crate::part_questions::{
+    ChangesFor, PartOfProposals, PartOfRequests, RequestsWith, WaitingFor,
+};
+use base::{Digest, Refusal};
 use desk_exports::RequestList;
 use desk_types::{PersonName, Proposal};
 use sqlite::Alter;
@@ -48,6 +51,38 @@ impl<S: Alter + Drop> Desk<S> {
     {
         let question: PartOfRequests<L> = PartOfRequests {
             number,
+            list: PhantomData,
+        };
+        self.answer_person(name, &question)
+    }
+
+    /// The requests that the person is shown with this digest, ascending by number, at most the
+    /// first 1,000: a submitter's own, and all for every other person. It is the SHA-256 of the
+    /// submitted or of the returned file, an Authenticode digest of their images, or that of a
+    /// certificate that the submitted one carries. They are collected into an `L`, one after
+    /// another. Nothing is changed. Takes memory for a flag for each request of the desk, for the
+    /// numbers of those that have the digest in one column, for one request, and for the list.
+    ///
+    /// `UnknownCaller`: nobody has the name. `NoMemory`: memory was refused. `Store`: the store
+    /// failed, or isn't as a desk left it. `Reopen`: an earlier call answered `Store`.
+    pub fn requests_with<L: RequestList + Drop>(
+        &mut self,
+        name: &PersonName,
+        digest: &Digest,
+    ) -> Result<L, Refusal>
+        ensures shown { HasCleanDisk (state S.Store self.new.conn) → IfOk result (λ list.
+            ForEachShown S.Store self.old (λ owner cs.
+            MatchResult (search.requests_with cs (callers.Person name.now) digest.now)
+            (λ w. HoldsShown L.RequestList.holds w list) (λ _. ⊥))) }
+        ensures refused { HasCleanDisk (state S.Store self.new.conn) → IfErr result (λ refusal.
+            refusal ≢ Refusal.NoMemory → refusal ≢ Refusal.Store
+            → ForEachShown S.Store self.old (λ owner cs.
+            search.requests_with cs (callers.Person name.now) digest.now ≡ Err refusal)) }
+        ensures reads { ReadsDesk S.Store (IsReadingRefusal (read.RequestsWith digest.now))
+            self.old self.new result }
+    {
+        let question: RequestsWith<L> = RequestsWith {
+            digest: *digest,
             list: PhantomData,
         };
         self.answer_person(name, &question)

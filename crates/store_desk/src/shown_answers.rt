@@ -1,5 +1,6 @@
 //! How the answers to a person's questions are shown.
 ghost use Rattle.desk_exports.specs.Changes.{changes_for};
+ghost use Rattle.desk_exports.specs.DigestSearch as search;
 ghost use Rattle.desk_exports.specs.ListParts as part;
 ghost use Rattle.desk_exports.specs.MinutesShown.{minutes_for};
 ghost use Rattle.desk_exports.specs.Waiting.{waiting_for};
@@ -10,7 +11,9 @@ ghost use Rattle.desk_types.specs.declared.caller.Caller.TheVariants as callers;
 ghost use Rattle.store_desk.specs.Questions.{refused_alike, refused_so};
 
 use crate::officer_questions::{AllPeople, MinutesFrom, OneProposal};
-use crate::part_questions::{ChangesFor, PartOfProposals, PartOfRequests, WaitingFor};
+use crate::part_questions::{
+    ChangesFor, PartOfProposals, PartOfRequests, RequestsWith, WaitingFor,
+};
 use crate::person_questions::ShownQuestion;
 use crate::questions::{AllProposals, AllRequests, OneRequest};
 use desk_exports::{Octets, RequestList, Shown, ShownPeople, ShownProposals};
@@ -29,6 +32,15 @@ impl<L: RequestList + Drop> ShownQuestion<L> for AllRequests<L> {
 impl<L: RequestList + Drop> ShownQuestion<L> for PartOfRequests<L> {
     ghost refuses = { λ q _ cs p.
         refused_alike _ _ (part.requests_from cs (callers.Person p.name) q.number) };
+
+    fn shown(&self, requests: L) -> Shown<L> {
+        Shown::Requests(requests)
+    }
+}
+
+impl<L: RequestList + Drop> ShownQuestion<L> for RequestsWith<L> {
+    ghost refuses = { λ q _ cs p.
+        refused_alike _ _ (search.requests_with cs (callers.Person p.name) q.digest) };
 
     fn shown(&self, requests: L) -> Shown<L> {
         Shown::Requests(requests)

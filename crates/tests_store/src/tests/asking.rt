@@ -1,7 +1,7 @@
 //! Questions to a desk, read from lines, and its answers in words. Each function makes one call of
 //! the desk: a proof that carries the contracts of several takes minutes.
 use super::line::Line;
-use super::parts::{changes, proposals_from, requests_from, waiting};
+use super::parts::{changes, proposals_from, requests_from, requests_with, waiting};
 use super::telling::{put_requests, told};
 use super::*;
 
@@ -113,6 +113,7 @@ fn put_answer<S: Alter + Drop>(
         "alone" => put_told(line, answered(alloc, desk, rest)),
         "lists" => all_shown(desk, &mut words, line),
         "requests" => requests_from(desk, &mut words, line),
+        "with" => requests_with(desk, &mut words, line),
         "proposals" => proposals_from(desk, &mut words, line),
         "waits" => waiting(desk, &mut words, line),
         "changes" => changes(desk, &mut words, line),

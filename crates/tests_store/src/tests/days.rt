@@ -1,7 +1,7 @@
 //! Days of a desk in a store: lines of calls to it, and its expected answers.
 use super::asking::answer;
 use super::founding::{made, opened, run};
-use super::scripts::{PARTS, PROPOSALS, REQUESTS, SPOILT, WAITING};
+use super::scripts::{PARTS, PROPOSALS, REQUESTS, SEARCHES, SPOILT, WAITING};
 use super::*;
 
 /// A desk without calls.
@@ -69,6 +69,11 @@ fn a_day_of_proposals(rt: HostRuntime) -> Result<(), Fail> {
 #[test]
 fn a_day_of_waiting(rt: HostRuntime) -> Result<(), Fail> {
     play(&rt, rt.alloc(), WAITING)
+}
+
+#[test]
+fn requests_are_found_by_each_digest(rt: HostRuntime) -> Result<(), Fail> {
+    play(&rt, rt.alloc(), SEARCHES)
 }
 
 #[test]

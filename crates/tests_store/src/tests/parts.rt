@@ -1,5 +1,5 @@
-//! Lists in parts, what waits, and the number that tells of changes, each read from a line and told
-//! in words.
+//! Lists in parts, requests by a digest, what waits, and the number that tells of changes, each read
+//! from a line and told in words.
 use super::line::Line;
 use super::*;
 
@@ -39,6 +39,20 @@ pub(super) fn requests_from<S: Alter + Drop>(
 ) -> Option<()> {
     let (name, number) = named(words)?;
     match desk.requests_from::<Vec<ShownRequest>>(&name, number) {
+        Ok(requests) => put_requests(line, &requests),
+        Err(refusal) => line.put(refusal.name()).ok(),
+    }
+}
+
+/// The requests with a digest.
+pub(super) fn requests_with<S: Alter + Drop>(
+    desk: &mut Desk<S>,
+    words: &mut Words,
+    line: &mut Line,
+) -> Option<()> {
+    let name = words.name()?;
+    let digest = words.digest()?;
+    match desk.requests_with::<Vec<ShownRequest>>(&name, &digest) {
         Ok(requests) => put_requests(line, &requests),
         Err(refusal) => line.put(refusal.name()).ok(),
     }

@@ -1,10 +1,10 @@
 //! The lines of days: `WHO KEY VERB .. : ANSWER` is a call that the desk's view for it decides
 //! first, `alone ..` one without a view, `lists WHO` shows the requests. `requests WHO NUMBER`
-//! shows how many there are from that number on, the first and the last, `proposals WHO NUMBER` the
-//! proposals from there on, `waits WHO` the numbers of requests that wait, and then the proposals,
-//! and `changes WHO` the number that tells of changes. A digest is shown by its first byte. After
-//! `reopen`, and after a line in capitals, which is SQL for the store under the desk, it is opened
-//! again.
+//! shows how many there are from that number on, the first and the last, `with WHO DIGEST` the same
+//! of those with a digest, `proposals WHO NUMBER` the proposals from there on, `waits WHO` the
+//! numbers of requests that wait, and then the proposals, and `changes WHO` the number that tells of
+//! changes. A digest is shown by its first byte. After `reopen`, and after a line in capitals, which
+//! is SQL for the store under the desk, it is opened again.
 
 /// Requests, reviews, returns and listings, and the requests that people are shown. The certificate
 /// is 204, the image 160; 161 is another.
@@ -193,7 +193,49 @@ requests olga 3 : 2 3 4
 requests olga 5 : 0
 requests eve 1 : UnknownCaller";
 
-/// A part holds 1,000 requests: the others stand in the next one.
+/// Requests by each digest that they may have. Each file is 240 until its column is changed; then
+/// only the returned file is, and at last only its image.
+pub(super) const SEARCHES: &str = "\
+console p1 add ann submitter 1 : added ann
+console p2 add abe submitter 2 : added abe
+console p3 add rita reviewer 3 : added rita
+console p4 add raul reviewer 4 : added raul
+console p5 add sid signer 5 : added sid
+console p6 add olga officer 6 : added olga
+with rita 160 : 0
+ann a1 submit shim 160 161 1 170 0 : submitted 1
+abe b1 submit grub 162 160 2 170 171 0 : submitted 2
+ann a2 submit shim 163 163 0 0 : submitted 3
+with rita 160 : 2 1 2
+with rita 161 : 1 1 1
+with rita 162 : 1 2 2
+with rita 163 : 1 3 3
+with rita 170 : 2 1 2
+with rita 171 : 1 2 2
+with rita 240 : 3 1 3
+with rita 99 : 0
+with ann 160 : 1 1 1
+with ann 240 : 2 1 3
+with ann 171 : 0
+with abe 160 : 1 2 2
+with abe 161 : 0
+with eve 160 : UnknownCaller
+rita r1 yes 1 : reviewed 1 open
+raul q1 yes 1 : reviewed 1 approved
+olga o1 list-certificate 204 : listed
+sid s1 return 1 161 161 1 204 0 : returned 1
+with sid 161 : 1 1 1
+with sid 204 : 0
+UPDATE requests SET file = digest
+with sid 240 : 1 1 1
+with ann 240 : 1 1 1
+with abe 240 : 0
+UPDATE returns SET digest = file, file = digest
+with sid 240 : 1 1 1
+with abe 240 : 0";
+
+/// A part holds 1,000 requests: the others stand in the next one. So many are shown of those with a
+/// digest, too.
 pub(super) const PARTS: &str = "\
 console p1 add ann submitter 1 : added ann
 console p2 add abe submitter 2 : added abe
@@ -208,7 +250,10 @@ requests rita 1001 : 1 1001 1001
 requests rita 1002 : 0
 requests rita 18446744073709551615 : 0
 requests ann 1001 : 0
-requests abe 1 : 1 1001 1001";
+requests abe 1 : 1 1001 1001
+with rita 240 : 1000 1 1000
+with rita 161 : 1 1001 1001
+with abe 240 : 1 1001 1001";
 
 /// A row that no desk writes: a call that needs it is `Store`, then each is `Reopen`, and nothing
 /// was changed.

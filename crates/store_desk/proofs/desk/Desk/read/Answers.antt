@@ -65,6 +65,16 @@ returns-in-RequestsFrom-clause-refused g c =
     refuses_for g.S.Store c.args.self.now c.show-in-RequestsFrom.new.self c.show-in-RequestsFrom.result (λ z owner cs. IsShownTo g.L.RequestList.holds owner cs c.args.person z) c.args.reading _ c.in-RequestsFrom.is
     c.show-in-RequestsFrom.ensures.refused
 
+pub returns-in-RequestsWith-clause-shown : goal.returns-in-RequestsWith-clause-shown
+returns-in-RequestsWith-clause-shown g c =
+    gives_for g.S.Store c.args.self.now c.show-in-RequestsWith.new.self c.show-in-RequestsWith.result (λ z owner cs. IsShownTo g.L.RequestList.holds owner cs c.args.person z) c.args.reading _ c.in-RequestsWith.is
+    c.show-in-RequestsWith.ensures.shown
+
+pub returns-in-RequestsWith-clause-refused : goal.returns-in-RequestsWith-clause-refused
+returns-in-RequestsWith-clause-refused g c =
+    refuses_for g.S.Store c.args.self.now c.show-in-RequestsWith.new.self c.show-in-RequestsWith.result (λ z owner cs. IsShownTo g.L.RequestList.holds owner cs c.args.person z) c.args.reading _ c.in-RequestsWith.is
+    c.show-in-RequestsWith.ensures.refused
+
 pub returns-in-ProposalsFrom-clause-shown : goal.returns-in-ProposalsFrom-clause-shown
 returns-in-ProposalsFrom-clause-shown g c =
     gives_for g.S.Store c.args.self.now c.show-in-ProposalsFrom.new.self c.show-in-ProposalsFrom.result (λ z owner cs. IsShownTo g.L.RequestList.holds owner cs c.args.person z) c.args.reading _ c.in-ProposalsFrom.is
