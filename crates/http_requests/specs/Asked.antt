@@ -1,5 +1,6 @@
 -- own: a request without its content, or the first of the checks on its fields that fails.
 use Rattle.std.specs.Prelude.{◌≡◌, ◌≢◌, ℕ, List, Option, Some, None, option_map, Result, Ok, Err, if◌then◌else◌}
+use Rattle.base.specs.Digests.{digest_of}
 use Rattle.sbat.specs.Fields.{decimal_of, stamp_of}
 use Rattle.desk_types.specs.Forms.{is_key, is_title, is_decimal}
 use Rattle.desk_types.specs.declared.command.Command.TheVariants as command
@@ -55,7 +56,7 @@ stamp_in w = stamp_given w.stamp
 
 -- the number in the place of {no}: 1 to 6 digits without a leading zero
 abbrev pub number_in : Want → Option ℕ
-number_in w = if is_decimal w.number then Some (decimal_of w.number) else None
+number_in w = if is_decimal w.part then Some (decimal_of w.part) else None
 
 -- the request with a title
 abbrev pub titled : Option (List ℕ) → (List ℕ → ImageAsked) → Result ImageAsked AskedFault
@@ -75,12 +76,16 @@ numbered (Some number) ask = Ok (ask number)
 -- the number of a minute, or of the first entry of a part of a list, in the place of {no}: 1 to 7
 -- digits without a leading zero
 abbrev pub minute_in : Want → Option ℕ
-minute_in w = minute_number w.number
+minute_in w = minute_number w.part
 
--- the request with such a number
-abbrev pub from_minute : Option ℕ → (ℕ → Reading) → Result Reading AskedFault
-from_minute None ask = Err NoRoute
-from_minute (Some number) ask = Ok (ask number)
+-- the digest in the place of {digest}: 64 hexadecimal digits of either case
+abbrev pub digest_in : Want → Option (List ℕ)
+digest_in w = digest_of w.part
+
+-- the request with such a number, or with such a digest
+abbrev pub of_part : {A : Type 0} → Option A → (A → Reading) → Result Reading AskedFault
+of_part None ask = Err NoRoute
+of_part (Some value) ask = Ok (ask value)
 
 -- the request with a proposal's number
 abbrev pub of_proposal : {A : Type 0} → Option ℕ → (ℕ → A) → Result A AskedFault
@@ -91,18 +96,19 @@ of_proposal (Some number) ask = Ok (ask number)
 abbrev pub read_at : GetRoute → Want → Result Reading AskedFault
 read_at get.Requests w = Ok read.Requests
 read_at get.Request w = numbered (number_in w) (λ number. read.Request number)
-read_at get.RequestsFrom w = from_minute (minute_in w) (λ number. read.RequestsFrom number)
+read_at get.RequestsFrom w = of_part (minute_in w) (λ number. read.RequestsFrom number)
+read_at get.RequestsWith w = of_part (digest_in w) (λ digest. read.RequestsWith digest)
 read_at get.Proposals w = Ok read.Proposals
 read_at get.Proposal w = of_proposal (number_in w) (λ number. read.Proposal number)
 read_at get.Impact w = of_proposal (number_in w) (λ number. read.Impact number)
-read_at get.ProposalsFrom w = from_minute (minute_in w) (λ number. read.ProposalsFrom number)
+read_at get.ProposalsFrom w = of_part (minute_in w) (λ number. read.ProposalsFrom number)
 read_at get.Waiting w = Ok read.Waiting
 read_at get.Changes w = Ok read.Changes
 read_at get.Dbx w = Ok (read.Export published.Dbx)
 read_at get.Db w = Ok (read.Export published.Db)
 read_at get.Level w = Ok (read.Export published.Level)
 read_at get.Report w = Ok read.Report
-read_at get.Minutes w = from_minute (minute_in w) (λ number. read.Minutes number)
+read_at get.Minutes w = of_part (minute_in w) (λ number. read.Minutes number)
 read_at get.People w = Ok read.People
 read_at get.Me w = Ok read.Me
 

@@ -15,7 +15,7 @@ use Rattle.http_requests.specs.declared.fault.WantedFault.TheVariants.{BadField,
 pub record Want : Type 0 where
   pub route : Route
   pub size : ℕ
-  pub number : List ℕ
+  pub part : List ℕ
   pub token : Option (List ℕ)
   pub key : Option (List ℕ)
   pub title : Option (List ℕ)
@@ -36,7 +36,7 @@ of_size p values route (Err fault) = Err fault
 of_size p values route (Ok size) = Ok (record {
   route = route;
   size = size;
-  number = part_of route p.target;
+  part = part_of route p.target;
   token = values.token;
   key = values.key;
   title = values.title;
@@ -68,7 +68,7 @@ abbrev pub shown : CheckedHead → Want
 shown w = record {
   route = w.route;
   size = w.size;
-  number = w.number.now;
+  part = w.part.now;
   token = bytes_of w.token;
   key = bytes_of w.key;
   title = bytes_of w.title;

@@ -1,13 +1,12 @@
 -- own: the paths of the desk, as a router of `matchit` keeps them.
-use Rattle.std.specs.Prelude.{ℕ, List, [], if◌then◌else◌, codes, Option, Some, option_map, option_and_then, Result, Ok, Err}
+use Rattle.std.specs.Prelude.{ℕ, List, [], if◌then◌else◌, codes, Option, Some, None, option_map, option_and_then, Result, Ok, Err}
 use Rattle.matchit.specs.Rows.{RowsOf}
 use Rattle.matchit.specs.Route.{Scan, parse_route}
 use Rattle.matchit.specs.Order.{placed}
 use Rattle.matchit.specs.Seek.{first}
 use Rattle.matchit.specs.Router.{RouteOf, route_from}
 use Rattle.matchit.specs.declared.error.InsertError.{InsertError}
-use Rattle.http_requests.specs.Routes.{is_from, part_read}
-use Rattle.http_requests.specs.Targets.{minute_number}
+use Rattle.http_requests.specs.Routes.{part_read, takes}
 use Rattle.http_requests.specs.declared.resource.Resource.{Resource}
 use Rattle.http_requests.specs.declared.resource.Resource.TheVariants.{Get, Post, GetAndPost}
 use Rattle.http_requests.specs.declared.route.GetRoute.{GetRoute}
@@ -95,13 +94,15 @@ with_records rows =
     (added (codes "/people") (get read.People)
     (added (codes "/minutes/{no}") (get read.Minutes) rows))
 
--- the rows and the paths of parts of lists, of what waits and of the number of changes
+-- the rows and the paths of parts of lists, of requests by a digest, of what waits and of the
+-- number of changes
 unfoldable pub with_parts : Table → Table
 with_parts rows =
     added (codes "/changes") (get read.Changes)
     (added (codes "/waiting") (get read.Waiting)
     (added (codes "/proposals/from/{no}") (get read.ProposalsFrom)
-    (added (codes "/requests/from/{no}") (get read.RequestsFrom) rows)))
+    (added (codes "/requests/with/{digest}") (get read.RequestsWith)
+    (added (codes "/requests/from/{no}") (get read.RequestsFrom) rows))))
 
 -- the table
 unfoldable pub table : Table
@@ -111,18 +112,15 @@ table = with_parts (with_records (with_rest (with_lists (with_proposals (with_im
 unfoldable pub listed_at : List ℕ → Option Resource
 listed_at target = option_map (λ route. route.value) (first table target)
 
--- a route of GET at a target, which has a number if the route reads from one on
-abbrev pub read_with_number : List ℕ → GetRoute → Option Resource
-read_with_number target route =
-    if is_from route
-    then option_map (λ number. get route) (minute_number (part_read route target))
-    else Some (get route)
+-- a route of GET at a target, if it takes the target's part
+abbrev pub read_if_taken : List ℕ → GetRoute → Option Resource
+read_if_taken target route = if takes route (part_read route target) then Some (get route) else None
 
--- a resource at a target; the minutes and parts of lists only from a number on
-abbrev pub with_number : List ℕ → Resource → Option Resource
-with_number target (Get route) = read_with_number target route
-with_number target resource = Some resource
+-- a resource at a target; one of GET alone must take the target's part
+abbrev pub if_taken : List ℕ → Resource → Option Resource
+if_taken target (Get route) = read_if_taken target route
+if_taken target resource = Some resource
 
 -- the resource at a request's target
 abbrev pub resource_of : List ℕ → Option Resource
-resource_of target = option_and_then (with_number target) (listed_at target)
+resource_of target = option_and_then (if_taken target) (listed_at target)

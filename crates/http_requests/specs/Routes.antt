@@ -1,7 +1,8 @@
 -- own: the route of each method of a path.
-use Rattle.std.specs.Prelude.{ℕ, List, Bool, true, false, codes, bytes_eq, if◌then◌else◌, Option, Some, None}
+use Rattle.std.specs.Prelude.{ℕ, List, Bool, true, codes, bytes_eq, if◌then◌else◌, Option, Some, None, is_some}
+use Rattle.base.specs.Digests.{digest_of}
 use Rattle.base.specs.Limits.{longest_image}
-use Rattle.http_requests.specs.Targets.{from_part, number_part}
+use Rattle.http_requests.specs.Targets.{minute_number, second_part, third_part}
 use Rattle.http_requests.specs.declared.resource.Resource.{Resource}
 use Rattle.http_requests.specs.declared.resource.Resource.TheVariants as resource
 use Rattle.http_requests.specs.declared.resource.Methods.{Methods}
@@ -48,20 +49,23 @@ abbrev pub limit_of : PostRoute → ℕ
 limit_of (posts.Image r) = longest_image
 limit_of (posts.Command r) = 4194304
 
--- own: whether a route of GET reads from a number on
-abbrev pub is_from : GetRoute → Bool
-is_from read.RequestsFrom = true
-is_from read.ProposalsFrom = true
-is_from read.Minutes = true
-is_from _ = false
-
--- the part of a target that {no} stands for where the path of this route of GET has it
+-- the part of a target that {no} or {digest} stands for where the path of this route of GET has it
 abbrev pub part_read : GetRoute → List ℕ → List ℕ
-part_read read.RequestsFrom target = from_part target
-part_read read.ProposalsFrom target = from_part target
-part_read _ target = number_part target
+part_read read.RequestsFrom target = third_part target
+part_read read.RequestsWith target = third_part target
+part_read read.ProposalsFrom target = third_part target
+part_read _ target = second_part target
 
--- the part of a target that {no} stands for where the route's path has it
+-- the part of a target that {no} or {digest} stands for where the route's path has it
 abbrev pub part_of : Route → List ℕ → List ℕ
 part_of (route.Get r) target = part_read r target
-part_of (route.Post r) target = number_part target
+part_of (route.Post r) target = second_part target
+
+-- own: whether the path of this route of GET is found with a part: the minutes and the parts of
+-- lists need a number to read from, and a digest must be one; the others are found with any
+abbrev pub takes : GetRoute → List ℕ → Bool
+takes read.RequestsFrom part = is_some (minute_number part)
+takes read.RequestsWith part = is_some (digest_of part)
+takes read.ProposalsFrom part = is_some (minute_number part)
+takes read.Minutes part = is_some (minute_number part)
+takes _ part = true

@@ -8,15 +8,13 @@ use Rattle.sbat.specs.Fields.{decimal_of}
 abbrev pub is_slash : ℕ → Bool
 is_slash b = b == 47
 
--- the part of a target between its second slash and the third, or the end: {no} where its path has
--- it, unless it is a part of a list
-abbrev pub number_part : List ℕ → List ℕ
-number_part target = before_first is_slash (after_first is_slash (after_first is_slash target))
+-- the part of a target between its second slash and the third, or the end
+abbrev pub second_part : List ℕ → List ℕ
+second_part target = before_first is_slash (after_first is_slash (after_first is_slash target))
 
--- the part of a target between its third slash and the fourth, or the end: {no} where its path is
--- that of a part of a list
-abbrev pub from_part : List ℕ → List ℕ
-from_part target = number_part (after_first is_slash target)
+-- the part of a target between its third slash and the fourth, or the end
+abbrev pub third_part : List ℕ → List ℕ
+third_part target = second_part (after_first is_slash target)
 
 -- the number of a minute, or of the first entry of a part of a list, that a text spells: 1 to 7
 -- digits, of which the first isn't 0 (48)

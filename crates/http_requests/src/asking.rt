@@ -10,6 +10,7 @@ use crate::{
     AskedFault, BytesAsked, CheckedHead, CommandAsked, CommandRoute, GetRoute, ImageAsked,
     ImageRoute, JsonAsked, KeyedCommand,
 };
+use base::Digest;
 use desk_exports::{Published, Reading};
 use desk_types::{Command, GREATEST_NUMBER, Key, ProposalNumber, RequestNumber, TextFault, Title};
 use sbat::Stamp;
@@ -68,7 +69,7 @@ fn stamp(wanted: &CheckedHead<'_>) -> Result<Option<Stamp>, AskedFault>
 fn number(wanted: &CheckedHead<'_>) -> Result<RequestNumber, AskedFault>
     ensures { spec.GivesOr NoSuchRequest (spec.number_in (want.shown wanted.now)) result }
 {
-    let Some(number) = RequestNumber::parse(wanted.number) else {
+    let Some(number) = RequestNumber::parse(wanted.part) else {
         return Err(AskedFault::NoSuchRequest);
     };
     prove!(number.value() <= GREATEST_NUMBER);
@@ -79,7 +80,7 @@ fn number(wanted: &CheckedHead<'_>) -> Result<RequestNumber, AskedFault>
 fn proposal(wanted: &CheckedHead<'_>) -> Result<ProposalNumber, AskedFault>
     ensures { spec.GivesOr NoSuchProposal (spec.number_in (want.shown wanted.now)) result }
 {
-    let Some(number) = ProposalNumber::parse(wanted.number) else {
+    let Some(number) = ProposalNumber::parse(wanted.part) else {
         return Err(AskedFault::NoSuchProposal);
     };
     prove!(number.value() <= GREATEST_NUMBER);
@@ -90,16 +91,26 @@ fn proposal(wanted: &CheckedHead<'_>) -> Result<ProposalNumber, AskedFault>
 fn minute(wanted: &CheckedHead<'_>) -> Result<u64, AskedFault>
     ensures { spec.GivesOr NoRoute (spec.minute_in (want.shown wanted.now)) result }
 {
-    match minute_number(wanted.number) {
+    match minute_number(wanted.part) {
         Some(number) => Ok(number),
         None => Err(AskedFault::NoRoute),
     }
 }
 
+/// The digest in the place of `{digest}`.
+fn digest(wanted: &CheckedHead<'_>) -> Result<Digest, AskedFault>
+    ensures { spec.GivesOr NoRoute (spec.digest_in (want.shown wanted.now)) result }
+{
+    match Digest::parse(wanted.part) {
+        Ok(digest) => Ok(digest),
+        Err(_) => Err(AskedFault::NoRoute),
+    }
+}
+
 /// The request of a GET, or NoSuchRequest if `{no}` isn't 1 to 6 digits without a leading zero, and
 /// at a path of proposals NoSuchProposal; at the paths of the minutes and of parts of lists it is 1
-/// to 7 such digits, or NoRoute, which `check_head` gives before. To be called once the caller is
-/// known.
+/// to 7 such digits, and `{digest}` 64 hexadecimal digits, or NoRoute, which `check_head` gives
+/// before. To be called once the caller is known.
 pub fn read_asked(route: GetRoute, wanted: &CheckedHead<'_>) -> Result<Reading, AskedFault>
     ensures { spec.Gives (spec.read_at route (want.shown wanted.now)) result }
 {
@@ -107,6 +118,7 @@ pub fn read_asked(route: GetRoute, wanted: &CheckedHead<'_>) -> Result<Reading, 
         GetRoute::Requests => Ok(Reading::Requests),
         GetRoute::Request => Ok(Reading::Request(number(wanted)?)),
         GetRoute::RequestsFrom => Ok(Reading::RequestsFrom(minute(wanted)?)),
+        GetRoute::RequestsWith => Ok(Reading::RequestsWith(digest(wanted)?)),
         GetRoute::Proposals => Ok(Reading::Proposals),
         GetRoute::Proposal => Ok(Reading::Proposal(proposal(wanted)?)),
         GetRoute::Impact => Ok(Reading::Impact(proposal(wanted)?)),

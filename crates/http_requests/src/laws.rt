@@ -75,19 +75,27 @@ pub fn paths_of_records_are_found()
     ensures me { resource_of (codes "/me") ≡ Some (get read.Me) }
 {}
 
-/// The paths of parts of lists, of what waits and of the number of changes are found; `from` alone
-/// stands in the place of a request's number.
+/// The paths of parts of lists, of requests by a digest in either case, of what waits and of the
+/// number of changes are found; `from` or `with` alone stands in the place of a request's number.
 pub fn paths_of_parts_are_found()
     ensures requests { resource_of (codes "/requests/from/12") ≡ Some (get read.RequestsFrom) }
+    ensures digest { resource_of
+        (codes "/requests/with/0123456789abcdef0123456789abcdef0123456789abcdef0123456789abcdef")
+        ≡ Some (get read.RequestsWith) }
+    ensures upper_case { resource_of
+        (codes "/requests/with/0123456789ABCDEF0123456789ABCDEF0123456789ABCDEF0123456789ABCDEF")
+        ≡ Some (get read.RequestsWith) }
     ensures proposals { resource_of (codes "/proposals/from/1000000")
         ≡ Some (get read.ProposalsFrom) }
     ensures waiting { resource_of (codes "/waiting") ≡ Some (get read.Waiting) }
     ensures changes { resource_of (codes "/changes") ≡ Some (get read.Changes) }
     ensures no_number { resource_of (codes "/requests/from") ≡ Some (get read.Request) }
+    ensures no_digest { resource_of (codes "/requests/with") ≡ Some (get read.Request) }
 {}
 
-/// A path isn't found with a query, with a slash at its end, or with an empty part, and none of the
-/// minutes or of a part of a list with a part that isn't such a number.
+/// A path isn't found with a query, with a slash at its end, or with an empty part, none of the
+/// minutes or of a part of a list with a part that isn't such a number, and none of requests by a
+/// digest with a part that isn't one.
 pub fn no_other_path_is_found()
     ensures query { resource_of (codes "/level?x") ≡ None }
     ensures end { resource_of (codes "/level/") ≡ None }
@@ -97,6 +105,9 @@ pub fn no_other_path_is_found()
     ensures eight_digits { resource_of (codes "/minutes/12345678") ≡ None }
     ensures from_no_digit { resource_of (codes "/requests/from/review") ≡ None }
     ensures from_zero { resource_of (codes "/proposals/from/0") ≡ None }
+    ensures with_63_digits { resource_of
+        (codes "/requests/with/0123456789abcdef0123456789abcdef0123456789abcdef0123456789abcde")
+        ≡ None }
 {}
 
 /// An entity tag is read as its digest, and no other text is.

@@ -2,8 +2,8 @@
 ghost use Rattle.std.specs.Prelude.{◌≡◌};
 ghost use Rattle.http_requests.specs.Routes as spec;
 
-use crate::target::{from_part, number_part};
-use base::LONGEST_IMAGE;
+use crate::target::{minute_number, second_part, third_part};
+use base::{Digest, LONGEST_IMAGE};
 
 /// The most bytes of a body that isn't an image: 4 MiB.
 const LONGEST_BODY: u64 = 4_194_304;
@@ -15,7 +15,8 @@ pub enum Route {
     Post(PostRoute),
 }
 
-/// A route of GET. `{no}` stands for the number of a request, of a proposal or of a minute.
+/// A route of GET. `{no}` stands for the number of a request, of a proposal or of a minute,
+/// `{digest}` for 64 hexadecimal digits.
 #[derive(Clone, Copy, Debug, PartialEq, Eq)]
 pub enum GetRoute {
     /// `/requests`
@@ -24,6 +25,8 @@ pub enum GetRoute {
     Request,
     /// `/requests/from/{no}`
     RequestsFrom,
+    /// `/requests/with/{digest}`
+    RequestsWith,
     /// `/proposals`
     Proposals,
     /// `/proposals/{no}`
@@ -107,46 +110,26 @@ pub enum CommandRoute {
 }
 
 impl Route {
-    /// The part of a target that `{no}` stands for where the route's path has it.
-    pub(crate) fn number_part(self, target: &[u8]) -> &[u8]
+    /// The part of a target that `{no}` or `{digest}` stands for where the route's path has it.
+    pub(crate) fn part(self, target: &[u8]) -> &[u8]
         ensures { result.now ≡ spec.part_of self target.now }
     {
         match self {
-            Route::Get(route) => route.number_part(target),
-            Route::Post(_) => number_part(target),
+            Route::Get(route) => route.part(target),
+            Route::Post(_) => second_part(target),
         }
     }
 }
 
 impl GetRoute {
-    /// Whether the route reads from a number on.
-    pub(crate) fn is_from(self) -> bool
-        ensures { result ≡ spec.is_from self }
-    {
-        match self {
-            GetRoute::RequestsFrom | GetRoute::ProposalsFrom | GetRoute::Minutes => true,
-            GetRoute::Requests
-            | GetRoute::Request
-            | GetRoute::Proposals
-            | GetRoute::Proposal
-            | GetRoute::Impact
-            | GetRoute::Waiting
-            | GetRoute::Changes
-            | GetRoute::Dbx
-            | GetRoute::Db
-            | GetRoute::Level
-            | GetRoute::Report
-            | GetRoute::People
-            | GetRoute::Me => false,
-        }
-    }
-
-    /// The part of a target that `{no}` stands for where the route's path has it.
-    pub(crate) fn number_part(self, target: &[u8]) -> &[u8]
+    /// The part of a target that `{no}` or `{digest}` stands for where the route's path has it.
+    pub(crate) fn part(self, target: &[u8]) -> &[u8]
         ensures { result.now ≡ spec.part_read self target.now }
     {
         match self {
-            GetRoute::RequestsFrom | GetRoute::ProposalsFrom => from_part(target),
+            GetRoute::RequestsFrom | GetRoute::RequestsWith | GetRoute::ProposalsFrom => {
+                third_part(target)
+            }
             GetRoute::Requests
             | GetRoute::Request
             | GetRoute::Proposals
@@ -160,7 +143,33 @@ impl GetRoute {
             | GetRoute::Report
             | GetRoute::Minutes
             | GetRoute::People
-            | GetRoute::Me => number_part(target),
+            | GetRoute::Me => second_part(target),
+        }
+    }
+
+    /// Whether the route's path is found with this part: the minutes and the parts of lists need a
+    /// number to read from, and a digest must be one; the others are found with any.
+    pub(crate) fn takes(self, part: &[u8]) -> bool
+        ensures { result ≡ spec.takes self part.now }
+    {
+        match self {
+            GetRoute::RequestsFrom | GetRoute::ProposalsFrom | GetRoute::Minutes => {
+                minute_number(part).is_some()
+            }
+            GetRoute::RequestsWith => Digest::parse(part).is_ok(),
+            GetRoute::Requests
+            | GetRoute::Request
+            | GetRoute::Proposals
+            | GetRoute::Proposal
+            | GetRoute::Impact
+            | GetRoute::Waiting
+            | GetRoute::Changes
+            | GetRoute::Dbx
+            | GetRoute::Db
+            | GetRoute::Level
+            | GetRoute::Report
+            | GetRoute::People
+            | GetRoute::Me => true,
         }
     }
 }

@@ -1,11 +1,10 @@
 //! The table of paths.
 ghost use Rattle.std.specs.Prelude.{◌≡◌, IfOk, OnOk};
-ghost use Rattle.http_requests.specs.Paths.{added, get, listed_at, post_command, post_image};
-ghost use Rattle.http_requests.specs.Paths.{read_with_number, resource_of, table, with_images};
-ghost use Rattle.http_requests.specs.Paths.{with_lists, with_number, with_parts, with_proposals};
+ghost use Rattle.http_requests.specs.Paths.{added, get, if_taken, listed_at, post_command};
+ghost use Rattle.http_requests.specs.Paths.{post_image, read_if_taken, resource_of, table};
+ghost use Rattle.http_requests.specs.Paths.{with_images, with_lists, with_parts, with_proposals};
 ghost use Rattle.http_requests.specs.Paths.{with_records, with_requests, with_rest};
 
-use crate::target::minute_number;
 use crate::{CommandRoute, GetRoute, ImageRoute, PostRoute, Resource};
 use matchit::{InsertError, Router};
 use std::alloc::{AllocError, Global};
@@ -52,34 +51,35 @@ impl Routes {
         }
     }
 
-    /// The resource of a request's target, if the target is a path of the table, and one of the
-    /// minutes or of a part of a list has a number.
+    /// The resource of a request's target, if the target is a path of the table whose route takes
+    /// the target's part.
     pub(crate) fn resource_of(&self, target: &str) -> Option<Resource>
         ensures { result ≡ resource_of target.now }
     {
         match self.listed_at(target) {
-            Some(resource) => with_number(target.as_bytes(), resource),
+            Some(resource) => if_taken(target.as_bytes(), resource),
             None => None,
         }
     }
 }
 
-/// The route of GET at a target, unless it reads from a number on and the target has none.
-fn read_with_number(target: &[u8], route: GetRoute) -> Option<Resource>
-    ensures { result ≡ read_with_number target.now route }
+/// The route of GET at a target, if it takes the target's part.
+fn read_if_taken(target: &[u8], route: GetRoute) -> Option<Resource>
+    ensures { result ≡ read_if_taken target.now route }
 {
-    if route.is_from() && minute_number(route.number_part(target)).is_none() {
-        return None;
+    if route.takes(route.part(target)) {
+        Some(Resource::Get(route))
+    } else {
+        None
     }
-    Some(Resource::Get(route))
 }
 
-/// The resource at a target, unless it is read from a number on and the target has none.
-fn with_number(target: &[u8], resource: Resource) -> Option<Resource>
-    ensures { result ≡ with_number target.now resource }
+/// The resource at a target. One of GET alone must take the target's part.
+fn if_taken(target: &[u8], resource: Resource) -> Option<Resource>
+    ensures { result ≡ if_taken target.now resource }
 {
     match resource {
-        Resource::Get(route) => read_with_number(target, route),
+        Resource::Get(route) => read_if_taken(target, route),
         Resource::Post(_) | Resource::GetAndPost(_, _) => Some(resource),
     }
 }
@@ -179,11 +179,13 @@ fn add_records(router: &mut Router<Resource>) -> Result<(), InsertError>
     Ok(())
 }
 
-/// The paths of parts of lists, of what waits and of the number of changes.
+/// The paths of parts of lists, of requests by a digest, of what waits and of the number of
+/// changes.
 fn add_parts(router: &mut Router<Resource>) -> Result<(), InsertError>
     ensures { OnOk result (router.new ≡ with_parts router.old) }
 {
     add_get(router, "/requests/from/{no}", GetRoute::RequestsFrom)?;
+    add_get(router, "/requests/with/{digest}", GetRoute::RequestsWith)?;
     add_get(router, "/proposals/from/{no}", GetRoute::ProposalsFrom)?;
     add_get(router, "/waiting", GetRoute::Waiting)?;
     add_get(router, "/changes", GetRoute::Changes)?;

@@ -33,17 +33,17 @@ fn before_slash(text: &[u8]) -> &[u8]
 }
 
 /// The part of a target between its second slash and the third, or the end.
-pub(crate) fn number_part(target: &[u8]) -> &[u8]
-    ensures { result.now ≡ spec.number_part target.now }
+pub(crate) fn second_part(target: &[u8]) -> &[u8]
+    ensures { result.now ≡ spec.second_part target.now }
 {
     before_slash(after_slash(after_slash(target)))
 }
 
 /// The part of a target between its third slash and the fourth, or the end.
-pub(crate) fn from_part(target: &[u8]) -> &[u8]
-    ensures { result.now ≡ spec.from_part target.now }
+pub(crate) fn third_part(target: &[u8]) -> &[u8]
+    ensures { result.now ≡ spec.third_part target.now }
 {
-    number_part(after_slash(target))
+    second_part(after_slash(target))
 }
 
 /// The number of a minute, or of the first entry of a part of a list, that 1 to 7 decimal digits

@@ -8,10 +8,10 @@ pub struct CheckedHead<'b> {
     pub route: Route,
     /// The length of the body in bytes, 0 for GET.
     pub size: usize,
-    /// The bytes of the target that `{no}` stands for where the path has it: those between the
-    /// second `/` and the third or the end; at a part of a list, between the third and the fourth
-    /// or the end.
-    pub number: &'b [u8],
+    /// The bytes of the target that `{no}` or `{digest}` stands for where the path has it: those
+    /// between the second `/` and the third or the end; at a part of a list and at requests by a
+    /// digest, between the third and the fourth or the end.
+    pub part: &'b [u8],
     pub token: Option<&'b [u8]>,
     pub key: Option<&'b [u8]>,
     pub title: Option<&'b [u8]>,

@@ -36,7 +36,7 @@ fn check_parts<'b>(routes: &Routes, head: &Head<'b>) -> Result<CheckedHead<'b>, 
     Ok(CheckedHead {
         route,
         size,
-        number: route.number_part(head.target.as_bytes()),
+        part: route.part(head.target.as_bytes()),
         token: fields.token,
         key: fields.key,
         title: fields.title,
@@ -48,8 +48,9 @@ fn check_parts<'b>(routes: &Routes, head: &Head<'b>) -> Result<CheckedHead<'b>, 
 /// What a head requests, or the first check that fails, in this order: no Transfer-Encoding; each
 /// field that counts comes once at most and Content-Length has 1 to 10 digits; the target is a path
 /// of the table, whose minutes and parts of lists have a number of 1 to 7 digits without a leading
-/// zero; the path has the method; POST has a Content-Length and GET has none above 0; the length is
-/// within the route's limit. It doesn't check the caller.
+/// zero, and whose requests by a digest have 64 hexadecimal digits; the path has the method; POST
+/// has a Content-Length and GET has none above 0; the length is within the route's limit. It doesn't
+/// check the caller.
 pub fn check_head<'b>(routes: &Routes, head: &'b ParsedHead) -> Result<CheckedHead<'b>, WantedFault>
     ensures { (h : RequestHead) (rest : List ℕ) → ReadsRequest head.now h rest
         → spec.Gives (spec.wanted_of (parts_of h)) result }

@@ -34,3 +34,7 @@ returns-clause-from_no_digit c = refl
 pub returns-clause-from_zero : goal.returns-clause-from_zero
 unfolding matchit_on_literals added with_requests with_images with_proposals with_lists with_rest with_records with_parts table listed_at
 returns-clause-from_zero c = refl
+
+pub returns-clause-with_63_digits : goal.returns-clause-with_63_digits
+unfolding matchit_on_literals added with_requests with_images with_proposals with_lists with_rest with_records with_parts table listed_at
+returns-clause-with_63_digits c = refl
