@@ -12,6 +12,7 @@ use Rattle.desk_types.specs.declared.command.Command.TheVariants as command
 use Rattle.desk_types.specs.declared.command.Person.{Person}
 use Rattle.desk_types.specs.declared.role.Role.TheVariants as roles
 use Rattle.desk_history.specs.Calls.{History, item}
+use Rattle.desk_exports.specs.DigestSearch.{first_with}
 use Rattle.desk_exports.specs.ListParts.{part_from, request_number}
 use Rattle.desk_history.specs.People.{person}
 use Rattle.desk_history.specs.ProposalShown.{proposal_shown, shown_to_officer}
@@ -104,6 +105,8 @@ submitters_are_answered_by_own one other p first second alike =
       all = λ here there a later h. ((h.0.0, subst (λ r. IsGiven r h.0.0 (GivesRequests is_text_of)) told.all h.0.1, h.0.2), refl);
       parts = λ here there n a later h.
           ((h.0.0, subst (λ r. IsGiven (result_map_both (part_from request_number n) (λ (refusal : Refusal). refusal) r) h.0.0 (GivesRequests is_text_of)) told.all h.0.1, h.0.2), refl);
+      found = λ here there digest a later h.
+          ((h.0.0, subst (λ r. IsGiven (result_map_both (first_with digest) (λ (refusal : Refusal). refusal) r) h.0.0 (GivesRequests is_text_of)) told.all h.0.1, h.0.2), refl);
       waiting = λ here there a later h. ((h.0.0, waiting_alike one other p.name first second told.all h.0.0 h.0.1, h.0.2), refl);
       changes = λ here there a later h.
           ((h.0.0, subst (λ r. IsGiven r h.0.0 (GivesChanges is_text_of)) (changes_alike one other p.name first second told.all) h.0.1, h.0.2), refl);

@@ -103,6 +103,7 @@ impact_by_rules _ h = absurd (not_true h)
 due_by_rules : (reading : Reading) (r : Refusal) → IsTrue (may_refuse reading r) → IsTrue (may_answer r)
 due_by_rules read.Requests r h = turned_by_rules r h
 due_by_rules (read.RequestsFrom n) r h = turned_by_rules r h
+due_by_rules (read.RequestsWith digest) r h = turned_by_rules r h
 due_by_rules (read.Request k) r h = request_by_rules r h
 due_by_rules read.Proposals r h = turned_by_rules r h
 due_by_rules (read.ProposalsFrom n) r h = turned_by_rules r h

@@ -30,6 +30,8 @@ pub record AnswersAlike (one other : History) (p : Person) : Type 0 where
       → AnswersTask first one p (task.Read read.Requests) a later → AnswersTask second other p (task.Read read.Requests) a other
   pub parts : (first second : List ℕ) (n : ℕ) (a : TaskAnswer) (later : History)
       → AnswersTask first one p (task.Read (read.RequestsFrom n)) a later → AnswersTask second other p (task.Read (read.RequestsFrom n)) a other
+  pub found : (first second digest : List ℕ) (a : TaskAnswer) (later : History)
+      → AnswersTask first one p (task.Read (read.RequestsWith digest)) a later → AnswersTask second other p (task.Read (read.RequestsWith digest)) a other
   pub waiting : (first second : List ℕ) (a : TaskAnswer) (later : History)
       → AnswersTask first one p (task.Read read.Waiting) a later → AnswersTask second other p (task.Read read.Waiting) a other
   pub changes : (first second : List ℕ) (a : TaskAnswer) (later : History)
