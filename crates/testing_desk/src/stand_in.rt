@@ -56,6 +56,7 @@ fn word_of(reading: &Reading) -> &'static str {
     match reading {
         Reading::Requests => "requests",
         Reading::RequestsFrom(_) => "requests-from",
+        Reading::RequestsWith(_) => "requests-with",
         Reading::Request(_) => "request",
         Reading::Proposals => "proposals",
         Reading::ProposalsFrom(_) => "proposals-from",
@@ -260,7 +261,9 @@ fn given<L: RequestList + Drop>(
     reading: &Reading,
 ) -> Option<Shown<L>> {
     Some(match reading {
-        Reading::Requests | Reading::RequestsFrom(_) => { Shown::Requests(L::new(alloc)) }
+        Reading::Requests | Reading::RequestsFrom(_) | Reading::RequestsWith(_) => {
+            Shown::Requests(L::new(alloc))
+        }
         Reading::Request(number) => Shown::Request(request(alloc, *number)?),
         Reading::Proposals | Reading::ProposalsFrom(_) => Shown::Proposals(proposals(alloc)?),
         Reading::Proposal(number) => Shown::Proposal(whole(alloc, *number)?),

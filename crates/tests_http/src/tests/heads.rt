@@ -1,5 +1,5 @@
 //! Requests by their heads.
-use base::{Refusal, Watch};
+use base::{Digest, Refusal, Watch};
 use desk_exports::{Published, Reading};
 use desk_types::{Command, ProposalNumber, RequestNumber};
 use http_requests::{
@@ -95,6 +95,22 @@ NoRoute POST /requests/from/review HTTP/1.1|Content-Length: 1|Desk-Key: k||
 NoRoute GET /requests/from/1/review HTTP/1.1||
 NoRoute POST /requests/from/1/review HTTP/1.1|Content-Length: 1|Desk-Key: k||
 NoRoute GET /requests/1/from HTTP/1.1||
+NoRoute GET /requests/with/ HTTP/1.1||
+NoRoute GET /requests/with/1 HTTP/1.1||
+NoRoute GET /requests/with/0123456789abcdef0123456789abcdef0123456789abcdef0123456789abcde HTTP/1.1||
+NoRoute GET /requests/with/0123456789abcdef0123456789abcdef0123456789abcdef0123456789abcdef0 HTTP/1.1||
+NoRoute GET /requests/with/0123456789abcdef0123456789abcdef0123456789abcdef0123456789abcdeg HTTP/1.1||
+NoRoute GET /requests/with/0123456789abcdef0123456789abcdef0123456789abcdef0123456789abcd%66 HTTP/1.1||
+NoRoute GET /requests/with/%300123456789abcdef0123456789abcdef0123456789abcdef0123456789abc HTTP/1.1||
+NoRoute GET /requests/with/0123456789abcdef0123456789abcdef0123456789abcdef0123456789abcdef/ HTTP/1.1||
+NoRoute GET /requests/with/0123456789abcdef0123456789abcdef0123456789abcdef0123456789abcdef?x HTTP/1.1||
+NoRoute GET /requests/WITH/0123456789abcdef0123456789abcdef0123456789abcdef0123456789abcdef HTTP/1.1||
+NoRoute GET /requests/from/0123456789abcdef0123456789abcdef0123456789abcdef0123456789abcdef HTTP/1.1||
+NoRoute GET /proposals/with/0123456789abcdef0123456789abcdef0123456789abcdef0123456789abcdef HTTP/1.1||
+NoRoute POST /requests/with/review HTTP/1.1|Content-Length: 1|Desk-Key: k||
+NoRoute POST /requests/with/0123456789abcdef0123456789abcdef0123456789abcdef0123456789abcdef/review HTTP/1.1|Content-Length: 1|Desk-Key: k||
+NoRoute POST /requests/with/0123456789abcdef0123456789abcdef0123456789abcdef0123456789abcde HTTP/1.1||
+NoRoute GET /requests/1/with HTTP/1.1||
 NoRoute GET /proposals/from/+1 HTTP/1.1||
 NoRoute GET /proposals/from/impact HTTP/1.1||
 NoRoute GET /proposals/from/1/impact HTTP/1.1||
@@ -119,6 +135,8 @@ BadMethod POST /proposals/12 HTTP/1.1||
 BadMethod POST /proposals/x/impact HTTP/1.1||
 BadMethod POST /minutes/1 HTTP/1.1||
 BadMethod POST /requests/from/1 HTTP/1.1||
+BadMethod POST /requests/with/0123456789abcdef0123456789abcdef0123456789abcdef0123456789abcdef HTTP/1.1||
+BadMethod HEAD /requests/with/0123456789abcdef0123456789abcdef0123456789abcdef0123456789abcdef HTTP/1.1||
 BadMethod POST /proposals/from/1 HTTP/1.1||
 BadMethod POST /waiting HTTP/1.1||
 BadMethod HEAD /changes HTTP/1.1||
@@ -142,6 +160,7 @@ BadField GET /requests/x HTTP/1.1|Content-Length: 9999999999||
 BadField GET /proposals HTTP/1.1|Content-Length: 1||
 BadField GET /me HTTP/1.1|Content-Length: 1||
 BadField GET /waiting HTTP/1.1|Content-Length: 1||
+BadField GET /requests/with/0123456789abcdef0123456789abcdef0123456789abcdef0123456789abcdef HTTP/1.1|Content-Length: 1||
 TooLarge POST /verdict HTTP/1.1|Content-Length: 134217729||
 TooLarge POST /facts HTTP/1.1|Content-Length: 134217729||
 TooLarge POST /requests HTTP/1.1|Content-Length: 9999999999||
@@ -167,6 +186,8 @@ BadField POST /proposals/0/explain HTTP/1.1|Content-Length: 0||
 NoSuchRequest POST /requests/x/review HTTP/1.1|Content-Length: 1|Desk-Key: k||
 NoSuchRequest GET /requests/0 HTTP/1.1||
 NoSuchRequest GET /requests/from HTTP/1.1||
+NoSuchRequest GET /requests/with HTTP/1.1||
+NoSuchRequest GET /requests/0123456789abcdef0123456789abcdef0123456789abcdef0123456789abcdef HTTP/1.1||
 NoSuchRequest GET /requests/007 HTTP/1.1||
 NoSuchRequest GET /requests/+7 HTTP/1.1||
 NoSuchRequest GET /requests/1000000 HTTP/1.1||
@@ -190,6 +211,9 @@ Requests GET /requests HTTP/1.1||
 Request GET /requests/999999 HTTP/1.1||
 RequestsFrom GET /requests/from/1 HTTP/1.1||
 RequestsFrom GET /requests/from/9999999 HTTP/1.1||
+RequestsWith GET /requests/with/0123456789abcdef0123456789abcdef0123456789abcdef0123456789abcdef HTTP/1.1||
+RequestsWith GET /requests/with/0123456789ABCDEF0123456789ABCDEF0123456789ABCDEF0123456789ABCDEF HTTP/1.1||
+RequestsWith GET /requests/with/0123456789abcdef0123456789abcdef0123456789abcdef0123456789ABCDEF HTTP/1.1|Content-Length: 0||
 Review POST /requests/12/review HTTP/1.1|Content-Length: 4194304|Desk-Key: k||
 Withdraw POST /requests/12/withdraw HTTP/1.1|Content-Length: 0|Desk-Key: k||
 Return POST /requests/1/return HTTP/1.1|Content-Length: 134217728|Desk-Key: k||
@@ -277,6 +301,7 @@ fn name_of_reading(reading: &Reading) -> &'static str {
     match reading {
         Reading::Requests => "Requests",
         Reading::RequestsFrom(_) => "RequestsFrom",
+        Reading::RequestsWith(_) => "RequestsWith",
         Reading::Request(_) => "Request",
         Reading::Proposals => "Proposals",
         Reading::ProposalsFrom(_) => "ProposalsFrom",
@@ -492,4 +517,28 @@ fn gives_keys_stamps_titles_and_numbers(rt: HostRuntime) {
     assert!(rt; asks_for_title(rt.alloc()), "a title");
     assert!(rt; asks_for_number(rt.alloc()) == Some(true), "a number");
     assert!(rt; asks_for_proposal(rt.alloc()), "the number of a proposal");
+}
+
+/// A digest.
+const DIGEST: [u8; 32] = [
+    0x01, 0x23, 0x45, 0x67, 0x89, 0xab, 0xcd, 0xef, 0x01, 0x23, 0x45, 0x67, 0x89, 0xab, 0xcd, 0xef,
+    0x01, 0x23, 0x45, 0x67, 0x89, 0xab, 0xcd, 0xef, 0xfe, 0xdc, 0xba, 0x98, 0x76, 0x54, 0x32, 0x10,
+];
+
+/// Heads with this digest, in lower and in upper case.
+const WITH_DIGEST: &str = "\
+GET /requests/with/0123456789abcdef0123456789abcdef0123456789abcdeffedcba9876543210 HTTP/1.1||
+GET /requests/with/0123456789ABCDEF0123456789ABCDEF0123456789ABCDEFFEDCBA9876543210 HTTP/1.1||
+";
+
+/// Whether the head asks for the requests that have this digest.
+fn asks_for_digest(alloc: Global, head: &str) -> bool {
+    read_by(alloc, head) == Some(Reading::RequestsWith(Digest::from(DIGEST)))
+}
+
+#[test]
+fn gives_a_digest_of_either_case(rt: HostRuntime) {
+    for head in WITH_DIGEST.lines() {
+        assert!(rt; asks_for_digest(rt.alloc(), head), "{head}");
+    }
 }
