@@ -7,10 +7,10 @@ from typing import Any
 
 import pytest
 
-from checks.support.between import Between, answer, shown
-from checks.support.client_day import TODAY
+from checks.support.between import OLDER, Between, answer, shown
+from checks.support.client_day import ODD, SIGNED, TBS, TODAY
 from checks.support.deskctl import NO_TERMINAL, Office, Person
-from checks.support.images import PLAIN, authenticode, digest, with_text
+from checks.support.images import PLAIN, authenticode, digest, sha256, with_table, with_text
 from checks.support.messages import PEOPLE, refused, said
 from checks.support.says import expect
 from checks.support.steps import shown as request
@@ -72,11 +72,11 @@ def otto(office: Office, between: Between) -> Person:
 
 
 @pytest.mark.parametrize("name, asked, says", [
-    ("shim", [], ""), ("grub", [b"/requests/from/1"], ""),
-    ("grubb", [b"/requests/from/1", b"/requests/from/2"], "has a component grubb. Is it spelt"),
+    ("shim", [], ""), ("grub", ["/requests/from/1"], ""),
+    ("grubb", ["/requests/from/1", "/requests/from/2"], "has a component grubb. Is it spelt"),
 ])
 def test_requests_are_read_for_a_name_that_the_level_hasnt_until_one_has_it(
-    otto: Person, between: Between, name: str, asked: list[bytes], says: str
+    otto: Person, between: Between, name: str, asked: list[str], says: str
 ) -> None:
     one = dict(request(1, "ann", "a loader", "open", []), components=[["grub", 2]])
     between.shows[PATH] = shown({**PLAINER, "certificates": [], "components": [[name, 3]],
@@ -85,7 +85,58 @@ def test_requests_are_read_for_a_name_that_the_level_hasnt_until_one_has_it(
     between.shows |= {"/requests/from/1": shown([one]), "/requests/from/2": shown([])}
     said_ = otto.does("proposal 1", says)
     assert ("spelt" in said_) == bool(says), said_
-    expect([head.split(b" ")[1] for head in between.seen if b"/from/" in head], asked, "the parts")
+    expect(between.asked("/requests"), asked, "the parts")
+
+
+RETURNED = with_table(PLAIN, SIGNED[len(PLAIN):] * 2)
+
+
+@pytest.fixture
+def signed(office: Office) -> Office:
+    """Request 1, whose image has two digests; request 2, which is signed, and whose file carries a
+    certificate; a proposal of slips."""
+    office.file("returned.efi", RETURNED)
+    office["ann"].does("submit odd.efi --title odd")
+    office["ann"].does("submit signed.efi --title shim")
+    for name in ("rita", "raul"):
+        office[name].does("review 2 yes --yes")
+    office["olga"].does("list-certificate certificate.der --yes")
+    office["sid"].does("return 2 returned.efi --yes")
+    named = [sha256(ODD), authenticode(ODD), sha256(RETURNED), TBS]
+    words = " ".join(f"--digest {one}" for one in named)
+    office["olga"].does(f"revoke {words} --certificate {TBS} --yes", "proposal 1")
+    return office
+
+
+@pytest.mark.parametrize("older", [None, *OLDER])
+def test_a_confirm_of_digests_asks_for_their_requests_alone(
+    signed: Office, between: Between, older: str | None
+) -> None:
+    """An older desk's list is read, and tells the same."""
+    between.older = OLDER.get(older or "")
+    otto = signed["otto"].at(between.url)
+    otto.does("confirm 1 --yes", "confirmed: 4 new digests, 1 new certificate", err=[
+        f"! {sha256(ODD)} is the SHA-256 of the whole file of request 1 (open, odd)",
+        f"! {sha256(RETURNED)} is the SHA-256 of the whole returned file of request 2 (signed,",
+        f"! {TBS} is a certificate, which the image of request 2 (signed, shim) carries",
+        f"{authenticode(ODD)}  request 1 (open, odd)", "carried by request 2 (signed, shim)",
+    ])
+    names = sorted([sha256(ODD), authenticode(ODD), sha256(RETURNED), TBS])
+    due = [f"/requests/with/{name}" for name in names]
+    parts = ["/requests/from/1", "/requests/from/3"]
+    expect(between.asked("/requests"), due[:1] + parts if older else due, "what was asked for")
+
+
+def test_the_doubts_of_a_proposal_fit_a_terminal(signed: Office) -> None:
+    """There they are lines of whole words; elsewhere each is one line."""
+    otto = signed["otto"]
+    status, text = otto.asked("proposal 1", size=(24, 80))
+    doubts = text[text.index("! "):].splitlines()
+    assert status == 0 and max(map(len, doubts)) <= 80, text
+    said_there = " ".join(line.strip() for line in doubts)
+    one = f"! {TBS} is a certificate, which the image of request 2 (signed, shim) carries"
+    assert one in said_there, text
+    otto.does("proposal 1", one)
 
 
 def no_confirm(between: Between) -> None:

@@ -6,9 +6,11 @@ import re
 
 import pytest
 
-from checks.support.between import NO_ANSWER, Between
+from checks.support.between import NO_ANSWER, OLDER, Between
 from checks.support.deskctl import Office
-from checks.support.images import PLAIN, changed, sha256, with_table, with_text
+from checks.support.images import (
+    PLAIN, authenticode, changed, sha256, signing, with_table, with_text
+)
 from checks.support.says import expect
 from checks.support.wire import wire
 from kovelamiru.titles import apart_in, group_of, machine_names, name_of, titles_of
@@ -111,6 +113,27 @@ def test_a_file_that_was_submitted_before_is_asked_about(built: Office) -> None:
     assert "submitted before" not in ann.asked(line)[1]
 
 
+@pytest.mark.parametrize("older", [None, *OLDER])
+def test_only_requests_of_the_files_and_their_images_are_asked_for(
+    built: Office, between: Between, older: str | None
+) -> None:
+    """At an older desk one's own are."""
+    between.older = OLDER.get(older or "")
+    for title in ("shim", "grub"):
+        built["ann"].does(f"submit vmlinuz-arm64 --title {title}")
+    built["rita"].does("submit vmlinuz-amd64 --title other")
+    odd = image("amd64", b"1")
+    built.file("odd", odd)
+    ended, told = built["ann"].at(between.url).asked("submit odd vmlinuz-arm64 --title again", "no")
+    assert ended == 2 and "vmlinuz-arm64: The same file was submitted before, as request 2" in told
+    assert "odd:" not in told and "vmlinuz-amd64" not in told, told
+    arm = image("arm64")
+    names = {sha256(odd), authenticode(odd), signing(odd), sha256(arm), authenticode(arm)}
+    due = [f"/requests/with/{name}" for name in sorted(names)]
+    parts = ["/requests/from/1", "/requests/from/3"]
+    expect(between.asked("/requests"), due[:1] + parts if older else due, "what was asked for")
+
+
 def test_an_image_that_was_submitted_in_another_file_is_asked_about(built: Office) -> None:
     """One that was signed since, or whose signature was taken off; of what is no image nothing is
     asked."""
@@ -166,5 +189,4 @@ def test_a_review_of_an_upload_shows_what_was_signed_before(
         "  before      none of its name is signed among the last\n  length      1,024 bytes\n",
     ):
         assert line in said, (line, said)
-    asked = [head.split(b" ")[1] for head in between.seen if b"/from/" in head]
-    expect(asked, [b"/requests/from/1"], "the parts that were read")
+    expect(between.asked("/requests/from/"), ["/requests/from/1"], "the parts that were read")

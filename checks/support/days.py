@@ -11,6 +11,7 @@ from checks.support.largest import LARGEST
 from checks.support.looks import LOOKS, ODD
 from checks.support.messages import octets, ok, refused, text, token
 from checks.support.reasons import REASONS
+from checks.support.searches import SEARCHES
 from checks.support.steps import (
     Step, again, closes, confirms, drops, grub, judges, lists, named, proposal, proposes, raising,
     reads, refuses, returns, reviews, shown, submits, takes, vote
@@ -290,5 +291,6 @@ DAYS = {
     "levels": LEVELS, "keys": KEYS, "lists": LISTS, "files": FILES,
     "raises nothing": RAISES_NOTHING, "two officers": TWO_OFFICERS,
     "two proposals": TWO_PROPOSALS, "reasons": REASONS, "left over": LEFT_OVER, "looks": LOOKS,
-    "tags": TAGS, "inbox": INBOX, "first requests": FIRST_REQUESTS, "the largest": LARGEST,
+    "tags": TAGS, "inbox": INBOX, "searches": SEARCHES, "first requests": FIRST_REQUESTS,
+    "the largest": LARGEST,
 }

@@ -15,6 +15,11 @@ def wire(name: str) -> Any:
     return json.loads((FOLDER / f"{name}.json").read_text(encoding="utf-8"))
 
 
+def filled(path: str, number: str = "1", digest: str = "ab" * 32) -> str:
+    """A path of openapi.json, of this number or digest."""
+    return path.replace("{no}", number).replace("{digest}", digest)
+
+
 # The number of each refusal with its name and the status of its responses (0: it has none).
 REFUSALS: dict[int, tuple[str, int]] = {
     one["number"]: (one["name"], one["status"] or 0) for one in wire("refusals")

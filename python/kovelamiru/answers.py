@@ -3,14 +3,16 @@ from __future__ import annotations
 
 import hashlib
 from dataclasses import dataclass, fields
-from typing import Any, Optional, TypeVar
+from typing import Any, Collection, Optional, TypeVar
 
-from .desk import Desk
+from .desk import PART, Desk
 from .faults import REFUSED, Stop, no_desks
 from .http import Call
-from .words import KINDS, printable
+from .words import HEX, KINDS, printable
 
 T = TypeVar("T")
+# So many digests at most are searched for.
+MOST = 20
 
 
 @dataclass(frozen=True)
@@ -38,6 +40,15 @@ class Request:
     components: list[list[Any]]
     returned: Optional[str]
     votes: list[dict[str, str]]
+
+
+@dataclass(frozen=True)
+class Having:
+    """The requests that have one of some digests, ascending by number; and those of these digests
+    that further ones may have."""
+
+    requests: list[Request]
+    cut: set[str]
 
 
 @dataclass(frozen=True)
@@ -124,6 +135,22 @@ def caller_of(desk: Desk) -> Me:
 
 def request_of(desk: Desk, number: int) -> Request:
     return shaped(Request, desk.get(f"/requests/{number}").object())
+
+
+def having(desk: Desk, digests: Collection[str]) -> Optional[Having]:
+    """The requests that have one of these; nothing where the list is to be read, of an older desk
+    or for many digests."""
+    if len(digests) > MOST or not all(map(HEX.match, digests)):
+        return None
+    found: dict[int, Request] = {}
+    cut = set()
+    for digest in sorted(digests):
+        some = desk.requests_with(digest)
+        if some is None:
+            return None
+        found |= {value["number"]: shaped(Request, value) for value in some}
+        cut |= {digest} if len(some) >= PART else set()
+    return Having([found[number] for number in sorted(found)], cut)
 
 
 def proposal_in(value: Any) -> Proposal:

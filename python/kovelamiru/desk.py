@@ -10,7 +10,7 @@ import ssl
 import time
 from typing import Any, Collection, Iterator, Optional
 
-from .faults import LOOK, REFUSED, Lost, NoAnswer, Refused, Stop, no_desks
+from .faults import LOOK, REFUSED, Lost, NoAnswer, NoPath, Refused, Stop, no_desks
 from .http import JSON, PIECE, TEXT, UNTAKEN, Answer, Call, Site, Where, not_a_desk
 from .refusals import next_steps
 from .terminal import Progress, Terminal
@@ -22,6 +22,8 @@ FIRST_PAUSE, LONGEST_PAUSE, RETRIES = 0.25, 30.0, 8
 NOBODY = 3.0
 # The greatest number that a path takes.
 LAST = 9_999_999
+# A part of a list has so many objects at most, and so has a search by a digest.
+PART = 1000
 # So many texts at most are looked for in a list's bytes.
 FEW = 16
 # Longer bodies are sent once the token is known to be somebody's.
@@ -132,9 +134,7 @@ class Desk(Site):
                 if last >= first:
                     first, more = last + 1, True
                     continue
-                for value in objects(answer):
-                    if not isinstance(value.get("number"), int) or value["number"] < first:
-                        raise no_desks("its list isn't in order")
+                for value in ascending(objects(answer), first):
                     first, more = value["number"] + 1, True
                     yield value
             except Refused as refused:
@@ -142,6 +142,15 @@ class Desk(Site):
                     raise
                 yield from (value for value in self.items(path)
                             if value.get("number", first) >= first)
+
+    def requests_with(self, digest: str) -> Optional[list[dict[str, Any]]]:
+        """The first PART requests that have a digest; nothing where the desk, or the proxy before
+        it, is older than the route."""
+        try:
+            answer = self.if_there(Call("GET", f"/requests/with/{digest}"))
+        except NoPath:
+            return None
+        return None if answer is None else list(ascending(objects(answer)))
 
     def items(self, path: str) -> Iterator[dict[str, Any]]:
         """The objects of a whole list, or of one part."""
@@ -172,6 +181,15 @@ def objects(answer: Answer) -> Iterator[dict[str, Any]]:
         rest, at = rest[at:] + more, 0
 
 
+def ascending(values: Iterator[dict[str, Any]], first: int = 1) -> Iterator[dict[str, Any]]:
+    """The objects of a list whose numbers ascend from this one on."""
+    for value in values:
+        if not isinstance(value.get("number"), int) or value["number"] < first:
+            raise no_desks("its list isn't in order")
+        first = value["number"] + 1
+        yield value
+
+
 def last_without(answer: Answer, texts: Collection[str]) -> int:
     """The last number in a part of a list that has none of these texts, which needn't be parsed; 0
     of any other."""
@@ -198,4 +216,5 @@ def proxy_refusal(answer: Answer) -> Stop:
         return not_a_desk(answer)
     text = (f"refused by the proxy: {answer.status} {http.client.responses.get(answer.status, '')}".
             rstrip())
-    return Stop(REFUSED, text, steps.get(answer.status, "Ask who keeps the proxy."))
+    kind = NoPath if answer.status == 404 else Stop
+    return kind(REFUSED, text, steps.get(answer.status, "Ask who keeps the proxy."))

@@ -8,7 +8,7 @@ from collections import Counter
 from dataclasses import dataclass, field
 from typing import Any, Mapping, Optional, Sequence
 
-from .answers import Request, shaped, titled
+from .answers import Request, having, shaped, titled
 from .certificates import Certificate, certificate_in
 from .der import BadDer, tbs_digest
 from .described import LIMITS
@@ -123,6 +123,21 @@ def certificate_words(one: Certificate) -> str:
     return one.subject + (", a CA's" if one.authority else "")
 
 
+def look(desk: Desk, found: Known) -> None:
+    """Gives each request that has a text that is sought: of a digest or a certificate by the desk's
+    search, and of the list as far as a name goes that isn't found before."""
+    digests, given = found.digests | found.certificates, set[int]()
+    searched = having(desk, digests)
+    if searched:
+        for one in searched.requests:
+            given.add(one.number)
+            found.request(one)
+        found.sought -= digests - searched.cut
+    for value in desk.listed("/requests", texts=found.sought):
+        if value.get("number") not in given:
+            found.request(shaped(Request, value))
+
+
 def known(desk: Desk, digests: Sequence[str], certificates: Sequence[str],
           components: Sequence[Sequence[Any]] = (),
           given: Optional[Mapping[str, Certificate]] = None) -> Known:
@@ -132,9 +147,7 @@ def known(desk: Desk, digests: Sequence[str], certificates: Sequence[str],
     found.now.level = level_of(desk)[1] if components else {}
     found.sought = found.digests | found.certificates | {
         name for name, _ in components if name not in found.now.level}
-    if found.sought:
-        for value in desk.listed("/requests", texts=found.sought):
-            found.request(shaped(Request, value))
+    look(desk, found)
     if found.digests or found.certificates:
         for name in ("db", "dbx"):
             for kind, entry in lists_of(desk, name):

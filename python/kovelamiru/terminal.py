@@ -37,6 +37,14 @@ def fitted(cells: Sequence[Sequence[str]], stretch: int, room: int) -> list[str]
             if len(row) > 1 else cut(row[0], room) for row in cells]
 
 
+def wrapped(text: str, stream: TextIO) -> str:
+    """On a terminal, lines of whole words."""
+    if not stream.isatty():
+        return text
+    return textwrap.fill(text, shutil.get_terminal_size().columns, subsequent_indent="  ",
+                         break_long_words=False, break_on_hyphens=False)
+
+
 class Terminal:
     """What people see: results on standard output, all else on standard error."""
     def __init__(self, out: TextIO, err: TextIO):
@@ -49,6 +57,10 @@ class Terminal:
 
     def say(self, text: str = "") -> None:
         self.out.write(text + "\n")
+
+    def doubt(self, text: str) -> None:
+        """A doubt among the results."""
+        self.say(wrapped(f"! {text}", self.out))
 
     def note(self, text: str) -> None:
         if not self.quiet:
@@ -120,7 +132,7 @@ class Terminal:
         """Shows the doubts, and goes on only if a person types what is wanted, or --yes was given.
         `word` says the same without asking."""
         for doubt in doubts:
-            self.warn(self.wrapped(f"! {doubt}"))
+            self.warn(wrapped(f"! {doubt}", self.err))
         if self.yes:
             return
         if not self.asks:
@@ -134,13 +146,6 @@ class Terminal:
         self.err.write(f"{question} ")
         self.err.flush()
         return sys.stdin.readline().strip()
-
-    def wrapped(self, text: str) -> str:
-        """On a terminal, lines of whole words."""
-        if not self.err.isatty():
-            return text
-        return textwrap.fill(text, shutil.get_terminal_size().columns, subsequent_indent="  ",
-                             break_long_words=False, break_on_hyphens=False)
 
     @property
     def can_ask(self) -> bool:

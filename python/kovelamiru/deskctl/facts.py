@@ -43,7 +43,7 @@ def show_facts(run: Run, path: str, found: Facts, signatures: Sequence[Signature
     for name, value in rows:
         run.terminal.say(f"  {name:<11} {printable(value)}")
     for doubt in facts_doubts(found, signatures):
-        run.terminal.say(f"! {doubt}")
+        run.terminal.doubt(doubt)
     if now is not None:
         for line in today_lines(run.desk.where, entries_of(now, found)):
             run.terminal.say(line)
@@ -68,7 +68,7 @@ def compare(run: Run) -> int:
     for name, value in signature_rows(here, signatures):
         run.terminal.say(f"  {name:<11} {printable(value)}")
     for doubt in facts_doubts(here, signatures):
-        run.terminal.say(f"! {doubt}")
+        run.terminal.doubt(doubt)
     for line in today_lines(run.desk.where, entries_of(standing_of(run.desk), here)):
         run.terminal.say(line)
     run.terminal.note(OWN_READING)

@@ -138,7 +138,7 @@ def proposal(run: Run) -> None:
     own = own_doubts(run, one.officer) if one.state == "open" else []
     level = level_doubts_of(one, found) if lines else []
     for doubt in own + found.doubts + level:
-        run.terminal.say(f"! {doubt}")
+        run.terminal.doubt(doubt)
 
 
 def foreseen(run: Run, one: Proposal) -> tuple[Optional[dict[str, Any]], list[str]]:

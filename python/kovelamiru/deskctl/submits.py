@@ -5,7 +5,7 @@ import hashlib
 from dataclasses import dataclass
 from typing import Any, Optional, Sequence
 
-from ..answers import Request, me_of, said_number, shaped
+from ..answers import Request, having, me_of, said_number, shaped
 from ..described import LIMITS
 from ..faults import Causes, wrong
 from ..files import IMAGE_LIMIT, read_file
@@ -53,14 +53,22 @@ def images_of(run: Run) -> list[Image]:
     return [Image(*each) for each in zip(paths, read, titles)]
 
 
+def alike(run: Run, images: Sequence[Image]) -> list[Request]:
+    """The requests that have one of these files or of their images, and perhaps others."""
+    texts = {text for one in images for text in (one.sum(), *digests_in(one.data))}
+    found = having(run.desk, texts)
+    if found and not found.cut:
+        return found.requests
+    return [shaped(Request, value) for value in run.desk.listed("/requests", texts=texts)]
+
+
 def submit_asks(run: Run, images: Sequence[Image]) -> None:
     """Before a file or an image that the caller has submitted before, where a person can be asked:
     a script means it."""
     if not run.terminal.can_ask:
         return
     me = me_of(run.desk)
-    own = [one for one in (shaped(Request, value) for value in run.desk.listed("/requests"))
-           if me and one.submitter == me.name]
+    own = [one for one in alike(run, images) if one.submitter == me.name] if me else []
     asks = [f"{printable(one.path)}: {doubt}" for one in images
             for doubt in [twice_question(own, one.sum(), digests_in(one.data))] if doubt]
     if asks:
