@@ -7,7 +7,7 @@ import { json, plain, rowBytes } from './cases.mjs';
 import { allowDoubts } from '../../page/desk/allowing.js';
 import { levelLines } from '../../page/desk/beside.js';
 import { knownOf } from '../../page/desk/doubts.js';
-import { look } from '../../page/desk/imports.js';
+import { lookOf } from '../../page/desk/imports.js';
 import { givenOf } from '../../page/formats/certificates.js';
 import { tbsOf } from '../../page/formats/der.js';
 import { sha256 } from '../../page/formats/digests.js';
@@ -27,6 +27,7 @@ const known = knownOf([], {
     revoked: { digests: new Set(), certificates: new Set() },
     owners: new Set(),
 });
+const looked = async (bytes, name) => lookOf(await revocationsOf(bytes, name), known, name);
 
 const ofHex = (digits) => Buffer.from(digits, 'hex');
 const joined = (...all) => Buffer.concat(all.map((one) => Buffer.from(one)));
@@ -99,7 +100,7 @@ const TAKEN = [
     ['sbat,1,2026112700\ngrub,4\ngrub,3\n\0\0', 'grub from none to 4.'],
 ];
 for (const [file, ...told] of TAKEN) test(`it is taken, and told: ${told[0]}`, async () => {
-    const { fault, lines, body } = await look(new Uint8Array(Buffer.from(file)), known);
+    const { fault, lines, body } = await looked(new Uint8Array(Buffer.from(file)));
     assert.equal(fault, '');
     for (const text of told) assert.ok(lines.some((line) => line.includes(text)), lines.join('\n'));
     // What is left out isn't sent.
@@ -131,7 +132,7 @@ const REFUSED = [
     [joined(ofHex('4d534346'), Buffer.alloc(60)), 'It is a cabinet archive: unpack it first'],
 ];
 for (const [file, told] of REFUSED) test(`it is refused: ${told}`, async () => {
-    const { fault } = await look(new Uint8Array(Buffer.from(file)), known);
+    const { fault } = await looked(new Uint8Array(Buffer.from(file)));
     assert.ok(fault.includes(told), fault);
 });
 
@@ -176,7 +177,7 @@ for (const { name, stamp, names, desk, says } of levels) {
 
 test('a certificate that stands in a file whole is told, with whose it is', async () => {
     const row = [...allows.find(({ file }) => file === 'MokListRT').bytes];
-    const { lines, doubts } = await look(rowBytes(row, parts), known, 'MokListRT');
+    const { lines, doubts } = await looked(rowBytes(row, parts), 'MokListRT');
     assert.ok(lines.includes('Certificate: C=DE, O=A distribution, CN=Boot CA, a CA’s.'), lines);
     assert.ok(lines.includes('Certificate: O=A distribution, CN=Boot signer 2026.'), lines);
     assert.equal(doubts.length, 2);

@@ -1,27 +1,44 @@
-// The lists in parts: what is asked for, what comes of it, and what an older desk is asked for.
+// The lists in parts, and the requests with one of a few digests: what is asked for, what comes of
+// it, and what an older desk is asked for.
 import assert from 'node:assert/strict';
 import { test } from 'node:test';
 
 import './cases.mjs';
-import { listed } from '../../page/desk/lists.js';
+import { listed, requestsWith } from '../../page/desk/lists.js';
 
 let asked = [];
+/** How many were asked for at once at most. */
+let most = 0;
 
-// A desk with so many requests, the last of which it withholds where it fails.
-function desk(count, { isOld = false, fails = Infinity } = {}) {
-    asked = [];
-    const all = Array.from({ length: count }, (_, at) => ({ number: 3 * at + 2 }));
+const digest = (number) => String(number).padStart(64, '0');
+// Ten requests of a hundred have it as that of their file, and ten others as that of their image.
+const one = (number) => ({ number, file: digest(number % 10), digest: digest((number + 1) % 10) });
+
+const WITH = /^\/requests\/with\/([0-9a-f]{64})$/;
+const FROM = /^\/requests\/from\/([0-9]+)$/;
+const NO_ROUTE = [404, JSON.stringify({ name: 'NoRoute', refused: 53 })];
+const SITES_OWN = [404, '<html><title>404 Not Found</title></html>'];
+const FORBIDDEN = [403, JSON.stringify({ name: 'Forbidden', refused: 53 })];
+
+// A desk with so many requests, which refuses what `refuses` has an answer for.
+function desk(count, refuses = () => null, make = one) {
+    [asked, most] = [[], 0];
+    const all = Array.from({ length: count }, (_, at) => make(3 * at + 2));
+    let running = 0;
     globalThis.fetch = async (path) => {
         asked.push(path);
-        const from = Number(/^\/requests\/from\/([0-9]+)$/.exec(path)?.[1] ?? 0);
-        const status = from > fails ? 403 : isOld && from > 0 ? 404 : 200;
-        const rows = all.filter(({ number }) => number >= from);
-        const refused = JSON.stringify({ name: isOld ? 'NoRoute' : 'Forbidden', refused: 53 });
-        return {
-            status,
-            json: async () => (from > 0 ? rows.slice(0, 1000) : rows),
-            text: async () => refused,
-        };
+        running += 1;
+        most = Math.max(most, running);
+        await new Promise((resolve) => setTimeout(resolve, 1));
+        running -= 1;
+        const [, hex] = WITH.exec(path) ?? [];
+        const from = Number(FROM.exec(path)?.[1] ?? 0);
+        const rows = hex
+            ? all.filter((row) => row.file === hex || row.digest === hex)
+            : all.filter(({ number }) => number >= from);
+        const [status, text] = refuses(path) ?? [200, ''];
+        const json = async () => (path === '/requests' ? rows : rows.slice(0, 1000));
+        return { status, json, text: async () => text };
     };
     return all;
 }
@@ -39,12 +56,56 @@ for (const [count, parts] of [[0, 1], [999, 1], [1000, 2], [2500, 3]]) {
 }
 
 test('an older desk gives the whole list', async () => {
-    const all = desk(2500, { isOld: true });
+    const all = desk(2500, (path) => (FROM.test(path) ? NO_ROUTE : null));
     assert.deepEqual(await listed('requests'), { kind: 'value', value: all });
     assert.deepEqual(asked, ['/requests/from/1', '/requests']);
 });
 
 test('a list of which a part doesn’t come is none', async () => {
-    desk(2500, { fails: 2000 });
+    desk(2500, (path) => (FROM.exec(path)?.[1] > 2000 ? FORBIDDEN : null));
     assert.equal((await listed('requests')).kind, 'refused');
+});
+
+const digests = (count) => Array.from({ length: count }, (_, at) => digest(at));
+const paths = (some) => some.map((hex) => `/requests/with/${hex}`);
+
+for (const [count, due] of [[0, 0], [1, 20], [2, 30], [10, 100], [20, 100]]) {
+    test(`the requests with one of ${count} digests are told by ${count} answers`, async () => {
+        const all = desk(100);
+        const some = digests(count);
+        const answer = await requestsWith([...some, ...some]);
+        const value = all.filter((row) => some.includes(row.file) || some.includes(row.digest));
+        assert.equal(value.length, due);
+        assert.deepEqual(answer, { kind: 'value', value });
+        assert.deepEqual(asked, paths(some));
+        assert.equal(most, Math.min(count, 4));
+    });
+}
+
+test('for more digests than 20 the list is read', async () => {
+    const all = desk(1100);
+    assert.deepEqual(await requestsWith(digests(21)), { kind: 'value', value: all });
+    assert.deepEqual(asked, ['/requests/from/1', '/requests/from/3000']);
+});
+
+test('where more requests may have a digest than one answer tells, the list is read', async () => {
+    for (const [count, reads] of [[999, 0], [1000, 2], [1001, 2]]) {
+        const all = desk(count, undefined, (number) => ({ number, file: digest(1) }));
+        assert.deepEqual(await requestsWith([digest(1)]), { kind: 'value', value: all });
+        assert.equal(asked.filter((path) => FROM.test(path)).length, reads);
+    }
+});
+
+for (const [who, answer] of [['desk', NO_ROUTE], ['site before the desk', SITES_OWN]]) {
+    test(`where the ${who} is older, the list is read`, async () => {
+        const all = desk(7, (path) => (WITH.test(path) ? answer : null));
+        assert.deepEqual(await requestsWith(digests(2)), { kind: 'value', value: all });
+        assert.deepEqual(asked, [...paths(digests(2)), '/requests/from/1']);
+    });
+}
+
+test('where one answer doesn’t come, there are none', async () => {
+    desk(7, (path) => (path.endsWith('5') ? FORBIDDEN : null));
+    assert.equal((await requestsWith(digests(10))).kind, 'refused');
+    assert.equal(asked.some((path) => FROM.test(path)), false);
 });

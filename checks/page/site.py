@@ -6,6 +6,7 @@ import contextlib
 import http.client
 import http.server
 import json
+import re
 import secrets
 import struct
 import threading
@@ -116,6 +117,18 @@ class Site:
         self.relay.held.clear()
         yield
         until(60, "the desk answers", self.relay.held.is_set)
+
+    @contextlib.contextmanager
+    def reading(self) -> Iterator[list[str]]:
+        """The paths of requests that are read meanwhile."""
+        paths: list[str] = []
+
+        def shows(path: str) -> None:
+            paths.extend(re.findall("^/requests(?:/.*)?$", path))
+
+        before, self.relay.shows = self.relay.shows, shows
+        yield paths
+        self.relay.shows = before
 
     def through_proxy(self, name: str, path: str) -> Answer:
         """What this person reads there, through nginx."""

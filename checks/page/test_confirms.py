@@ -38,13 +38,32 @@ def test_a_confirm_that_would_bar_more_than_was_shown_isnt_sent(
     expect(state(site, number), "confirmed", "the proposal")
 
 
+def test_a_confirm_of_a_digest_reads_no_list_of_requests(browser: Browser, site: Site) -> None:
+    """But, each time that it looks, those that have the digest."""
+    request = site.submits(unsigned(121), "the loader that is meant")
+    digest = str(site.shows("olga", f"/requests/{request}")["digest"])
+    number = site.proposes(digest)
+    browser.sign_in(token("olga"))
+    with site.reading() as paths:
+        browser.go(f"proposals/{number}")
+        browser.sees("the loader that is meant", "Your decision")
+        expect(paths, [f"/requests/with/{digest}"], "what the view reads of requests")
+        browser.press("Confirm…")
+        browser.asks(f"Confirm proposal {number} for good?")
+        expect(len(paths), 2, "how often they are read before the question")
+        browser.press("Confirm for good")
+        browser.sees("New in force: 1 digest.")
+    expect(set(paths), {f"/requests/with/{digest}"}, "what a Confirm reads of requests")
+    assert len(paths) > 2, "nothing is read behind the question"
+
+
 def test_no_confirm_is_offered_or_sent_where_what_is_named_cant_be_compared(
     browser: Browser, site: Site
 ) -> None:
     number = site.proposes("7" * 64)
     browser.sign_in(token("olga"))
     browser.tries_at_once()
-    browser.blocks("*/requests", "*/requests/from/*")
+    browser.blocks("*/requests/with/*")
     browser.go(f"proposals/{number}")
     browser.sees("so no Confirm is offered.")
     assert "Confirm…" not in browser.texts("button")
@@ -54,7 +73,7 @@ def test_no_confirm_is_offered_or_sent_where_what_is_named_cant_be_compared(
     # The requests can't be read any more once the last question is answered.
     browser.press("Confirm…")
     browser.asks(f"Confirm proposal {number} for good?")
-    browser.blocks("*/requests", "*/requests/from/*")
+    browser.blocks("*/requests/with/*")
     browser.press("Confirm for good")
     browser.sees("Not confirmed.")
     expect(state(site, number), "open", "the proposal")

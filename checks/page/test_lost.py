@@ -161,7 +161,7 @@ def test_a_drop_whose_answer_is_lost_is_shown_once_its_view_is_made_anew(
     number = site.proposes("6" * 64)
     browser.sign_in(token("olga"))
     browser.tries_at_once(200)
-    browser.blocks("*/requests", "*/requests/from/*")
+    browser.blocks("*/requests/with/*")
     browser.go(f"proposals/{number}")
     browser.sees("so no Confirm is offered.")
     browser.blocks()

@@ -1,8 +1,6 @@
 """What a stranger gets, what is too long, and what a closed site and that of maintenance say."""
 from __future__ import annotations
 
-import json
-
 import pytest
 
 from checks.proxy.site import AT_ONCE, LEVEL, Proxied, Site, refusal
@@ -11,6 +9,7 @@ from checks.support.messages import token
 from checks.support.says import expect
 from checks.support.steps import named
 from checks.support.tools import ROOT
+from checks.support.wire import filled, wire
 
 MOST_IMAGE, MOST_BODY = 134_217_728, 4_194_304
 
@@ -64,10 +63,10 @@ def test_each_file_of_the_page_is_there(site: Site) -> None:
 
 
 def test_each_path_of_the_desks_goes_to_it(site: Site) -> None:
-    paths = json.loads((ROOT / "page/wire/openapi.json").read_text())["paths"]
+    paths = wire("openapi")["paths"]
     assert len(paths) > 30
     for path in paths:
-        found = site.ask("olga", path.replace("{no}", "100000"))
+        found = site.ask("olga", filled(path, "100000"))
         assert not found.body.startswith(b"<html>"), (path, found)
 
 

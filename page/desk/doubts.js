@@ -16,7 +16,7 @@ import { higher } from '../formats/sbat.js';
  *   carriers: Map<string, Request[]>, fingerprints: Map<string, Listed>,
  *   names: Set<string> }} Known
  * the lists; requests by the SHA-256 of a whole file, by a digest and by a certificate that they
- * carry; listed certificates by their fingerprints; the names of all components
+ * carry; listed certificates by their fingerprints; the names of the level's components and theirs
  * @typedef {import('../formats/certificates.js').Given} Given
  * @typedef {{ digests: Iterable<string>, certificates: Iterable<string>,
  *   components: Iterable<[string, number]>, stamp: number | null,

@@ -3,6 +3,7 @@
 import { allowDoubts } from './allowing.js';
 import { levelLines } from './beside.js';
 import { itemDoubts } from './doubts.js';
+import { known } from './known.js';
 import { revocationsOf } from '../formats/revocations.js';
 import { higher } from '../formats/sbat.js';
 import { wire } from '../formats/wire.js';
@@ -14,9 +15,10 @@ import { counted, grouped } from '../formats/words.js';
  * @typedef {{ kind: string, path: string, body: Uint8Array, lines: string[],
  *   named: import('./proposals.js').Named,
  *   doubts: import('./doubts.js').Doubt[], asksStamp: boolean, raises: boolean,
- *   fault: string }} Look
+ *   present: number, fault: string }} Look
  * `named` is what a proposal of it would name that isn't reached yet, `lines` what is in it,
- * `asksStamp` whether a stamp goes beside it, `fault` why it can't be imported
+ * `asksStamp` whether a stamp goes beside it, `present` the level's own, `fault` why it can't be
+ * imported
  */
 
 /** @type {Record<string, string>} */
@@ -50,26 +52,33 @@ const ASIDE = {
 };
 
 /**
- * @param {Uint8Array} bytes @param {Known} known @param {string} [name] the file's
- * @returns {Promise<Look>}
+ * @param {Uint8Array} bytes @param {string} name the file's
+ * @returns {Promise<import('./types.js').Answer<Look>>}
  */
-export async function look(bytes, known, name = '') {
+export async function look(bytes, name) {
     const found = await revocationsOf(bytes, name);
+    const all = await known(found);
+    return 'kind' in all ? all : { kind: 'value', value: lookOf(found, all, name) };
+}
+
+/** @param {Revocations} found @param {Known} all @param {string} [name] @returns {Look} */
+export function lookOf(found, all, name = '') {
     const { path, body } = found;
-    const none = bytes.length === 0 ? 'Empty' : 'It can’t be imported';
-    const { lines, fresh, raises } = news(found, known.now);
-    const doubts = found.fault ? [] : itemDoubts(found, known);
-    if (!found.fault) doubts.push(...allowDoubts(name, found, known.now));
+    const none = found.refused === 'empty' ? 'Empty' : 'It can’t be imported';
+    const { lines, fresh, raises } = news(found, all.now);
+    const doubts = found.fault ? [] : itemDoubts(found, all);
+    if (!found.fault) doubts.push(...allowDoubts(name, found, all.now));
     if (!found.fault && !fresh) doubts.push({ text: NOTHING_NEW });
     return {
         kind: KINDS[found.kind] ?? none,
         path,
         body,
         lines: [...found.notes, ...lines, ...losses(found)],
-        named: { ...found, components: higher(found.components, known.now.level) },
+        named: { ...found, components: higher(found.components, all.now.level) },
         doubts,
         asksStamp: found.kind === 'csv' && found.components.size > 0,
         raises,
+        present: all.now.level.stamp,
         fault: found.fault || tooMuch(found),
     };
 }

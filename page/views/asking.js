@@ -1,5 +1,5 @@
-// What is asked before something goes out: what the page knows of the desk, whether the officer
-// means what looks like a slip, what comes after a proposal, and the form of one.
+// What is asked before something goes out: whether the officer means what looks like a slip, what
+// comes after a proposal, and the form of one.
 
 import { act, refusalBox } from './act.js';
 import {
@@ -8,10 +8,9 @@ import {
 } from './dom.js';
 import { digest, proposalLink } from './marks.js';
 import { explainMade, whyField } from './reasons.js';
-import { knownOf } from '../desk/doubts.js';
-import { listed } from '../desk/lists.js';
+import { known } from '../desk/known.js';
 import { openDoubts, openProposals } from '../desk/proposals.js';
-import { changed, standing } from '../desk/standing.js';
+import { changed } from '../desk/standing.js';
 import { wire } from '../formats/wire.js';
 import { grouped } from '../formats/words.js';
 
@@ -32,15 +31,6 @@ export const WHY = 'Why (if you like)';
 
 /** How many doubts are shown. */
 const SHOWN = 12;
-
-// What a proposal is checked against: all requests, the lists and the level.
-/** @returns {Promise<Known | import('../desk/types.js').NoValue>} */
-export async function known() {
-    const [requests, now] = await Promise.all([listed('requests'), standing()]);
-    if (requests.kind !== 'value') return requests;
-    if (now.kind !== 'value') return now;
-    return knownOf(requests.value, now.value);
-}
 
 /** @param {Doubt[]} doubts @returns {Child[]} */
 export function doubtList(doubts) {
@@ -141,7 +131,7 @@ export function form(title, body, make) {
         if ('faults' in made) return faulty(...made.faults, why.fault());
         if (faulty(why.fault())) return undefined;
         fill(said, quiet('Reading from the desk…'));
-        const all = await known();
+        const all = await known(made.named);
         fill(said);
         if ('kind' in all) return fill(said, refusalBox(all));
         return propose(made.named, made.doubts(all), made.command, said, [go], why.text());

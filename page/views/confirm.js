@@ -3,7 +3,7 @@
 // Confirm goes out only if nothing is otherwise than it was shown.
 
 import { act } from './act.js';
-import { doubtList, known } from './asking.js';
+import { doubtList } from './asking.js';
 import { answers, box, button, done, fill, h, p, quiet, status, strong, sure } from './dom.js';
 import { harmed, impactBox, named } from './impact.js';
 import { shortly } from './items.js';
@@ -13,6 +13,7 @@ import { get } from '../desk/api.js';
 import { itemDoubts } from '../desk/doubts.js';
 import { matching } from '../desk/answers.js';
 import { Command } from '../desk/journal.js';
+import { known } from '../desk/known.js';
 import { reasonsOf } from '../desk/reasons.js';
 import { changed } from '../desk/standing.js';
 
@@ -36,16 +37,23 @@ export function proposalDoubts(proposal, all) {
 /** @param {number} number @returns {Promise<Seen | null>} */
 async function seen(number) {
     changed();
-    const [proposal, impact, all, reasons] = await Promise.all([
-        get(`/proposals/${number}`),
+    const [named, impact, reasons] = await Promise.all([
+        doubted(number),
         get(`/proposals/${number}/impact`),
-        known(),
         reasonsOf(number),
     ]);
-    if (proposal.kind !== 'value' || impact.kind !== 'value' || 'kind' in all) return null;
-    if (reasons.kind !== 'value') return null;
-    const doubts = proposalDoubts(proposal.value, all);
-    return { proposal: proposal.value, impact: impact.value, doubts, reasons: reasons.value };
+    if (!named || impact.kind !== 'value' || reasons.kind !== 'value') return null;
+    return { ...named, impact: impact.value, reasons: reasons.value };
+}
+
+// The proposal, and the doubts of what it names.
+/** @param {number} number @returns {Promise<Pick<Seen, 'proposal' | 'doubts'> | null>} */
+async function doubted(number) {
+    const answer = await get(`/proposals/${number}`);
+    if (answer.kind !== 'value') return null;
+    const proposal = answer.value;
+    const all = await known(proposal);
+    return 'kind' in all ? null : { proposal, doubts: proposalDoubts(proposal, all) };
 }
 
 /** @param {any} one @param {any} other */

@@ -8,7 +8,8 @@ import { digest, requestLink } from './marks.js';
 import { sendingBar } from './sending.js';
 import { table } from './table.js';
 import { post } from '../desk/api.js';
-import { differences, entries, likeness, sameFile } from '../desk/compare.js';
+import { differences, entries, likeness } from '../desk/compare.js';
+import { requestOf } from '../desk/known.js';
 import { withName } from '../desk/signer.js';
 import { standing } from '../desk/standing.js';
 import { authenticode } from '../formats/pe.js';
@@ -129,24 +130,12 @@ export async function lookPart(chosen, here, request) {
     ];
 }
 
-// The request whose image a file is: the same file first, then the same image.
-/** @param {Request[]} requests @param {Facts} here */
-function requestOf(requests, here) {
-    const like = requests.filter((request) => likeness(request, here).kind !== 'other');
-    return like.find((request) => sameFile(request, here.file)) ?? like[0] ?? null;
-}
-
-/**
- * All that is told of a file at hand, beside the request whose image it is.
- * @param {Chosen} chosen
- * @param {Facts} here
- * @param {import('../desk/types.js').Answer<Request[]>} requests those that the person sees
- */
-export async function matchPart(chosen, here, requests) {
-    if (requests.kind !== 'value') {
-        return [refusalBox(requests), await lookPart(chosen, here, null)];
-    }
-    const request = requestOf(requests.value, here);
+// All that is told of a file at hand, beside the request whose image it is.
+/** @param {Chosen} chosen @param {Facts} here */
+export async function matchPart(chosen, here) {
+    const found = await requestOf(here);
+    if (found.kind !== 'value') return [refusalBox(found), await lookPart(chosen, here, null)];
+    const request = found.value;
     const whose = request
         ? p('Compared with ', requestLink(request.number), `: ${request.title}`)
         : p('No request that you see has this image.');

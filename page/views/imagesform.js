@@ -9,7 +9,6 @@ import { barPlace } from './sending.js';
 import { get } from '../desk/api.js';
 import { colonDoubts, digestDoubts, digestsOf } from '../desk/doubts.js';
 import { Command, jsonCommand } from '../desk/journal.js';
-import { listed } from '../desk/lists.js';
 import { digestTyped } from '../formats/digests.js';
 import { isNumber } from '../formats/words.js';
 
@@ -37,14 +36,13 @@ function imagePart(take) {
         fill(said);
         if (!chosen) return;
         fill(said, quiet('The desk reads it…'));
-        const [answer, requests] = await Promise.all(
-            [postImage('/facts', chosen, bar), listed('requests')],
-        );
+        const answer = await postImage('/facts', chosen, bar);
         if (mine !== turn) return;
         answered = true;
         if (answer.kind !== 'value') return fill(said, await unreadPart(answer, chosen));
         take(answer.value);
-        fill(said, await matchPart(chosen, answer.value, requests));
+        const told = await matchPart(chosen, answer.value);
+        if (mine === turn) fill(said, told);
     });
     const isUnread = () => !answered && input.files?.length !== 0;
     return { parts: [place, bar, said], input, isUnread };

@@ -1,7 +1,7 @@
 // An import, with a look at what is in the file before it is proposed.
 
 import { refusalBox } from './act.js';
-import { WHY, formPart, known, onceAtATime, propose } from './asking.js';
+import { WHY, formPart, onceAtATime, propose } from './asking.js';
 import {
     answers, box, buttons, faulty, field, fill, h, p, status, strong, submitButton,
 } from './dom.js';
@@ -38,7 +38,7 @@ export function importForm() {
     const stampField = field('Stamp', stamp, STAMP_HINT);
     stampField.hidden = true;
     const why = whyField(WHY);
-    /** @type {{ look: Look, name: string, present: number } | null} */
+    /** @type {{ look: Look, name: string } | null} */
     let found = null;
     let turn = 0;
     const { place, input } = fileField('File', HINT, async (chosen) => {
@@ -48,23 +48,20 @@ export function importForm() {
         fill(inside);
         fill(said);
         if (!chosen) return;
-        const all = await known();
+        const seen = await look(chosen.bytes, chosen.file.name);
         if (mine !== turn) return;
-        if ('kind' in all) return fill(inside, refusalBox(all));
-        const seen = await look(chosen.bytes, all, chosen.file.name);
-        if (mine !== turn) return;
-        const present = all.now.level.stamp;
-        found = { look: seen, name: chosen.file.name, present };
-        stampField.hidden = !seen.asksStamp;
-        stamp.value ||= String(stampOf(new Date(), present));
-        return fill(inside, lookBox(seen));
+        if (seen.kind !== 'value') return fill(inside, refusalBox(seen));
+        found = { look: seen.value, name: chosen.file.name };
+        stampField.hidden = !seen.value.asksStamp;
+        stamp.value ||= String(stampOf(new Date(), seen.value.present));
+        return fill(inside, lookBox(seen.value));
     }, MOST);
     const go = submitButton('Propose this import');
     const submit = onceAtATime(async () => {
         const none = noFile(input, 'Choose a file.');
         const wrong = found?.look.fault ? 'This file can’t be imported.' : '';
         if (faulty([input, found ? wrong : none]) || !found) return undefined;
-        const { look: { named, asksStamp, raises, doubts, path, body }, name, present } = found;
+        const { look: { named, asksStamp, raises, present, doubts, path, body }, name } = found;
         const isOdd = asksStamp && !isStamp(stamp.value);
         if (faulty([stamp, isOdd ? STAMP_FAULT : ''], why.fault())) return undefined;
         const own = asksStamp && raises ? stampDoubts(Number(stamp.value), present) : [];

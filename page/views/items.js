@@ -65,13 +65,22 @@ function summary({ kind, passed, stamp }, known) {
     return parts;
 }
 
+// The request whose image has the digest; or what else it is of a request.
+/** @param {string} one @param {Known} known */
+function whose(one, { images, files, carriers }) {
+    const image = images.get(one);
+    if (image) return [requestLink(image.number), `: ${image.title}`];
+    const file = files.get(one);
+    if (file) return [requestLink(file.number), ': a whole file, no image'];
+    const [carrier] = carriers.get(one) ?? [];
+    if (carrier) return [requestLink(carrier.number), ': a certificate that it carries, no image'];
+    return 'no request here has it';
+}
+
 /** @param {string} one @param {Known | null} known */
 function digestRow(one, known) {
-    const request = known?.images.get(one);
-    const none = known ? 'no request here has it' : '';
     const listed = known?.now.listed.digests.has(one) ? 'listed; ' : '';
-    const as = [listed, request ? [requestLink(request.number), `: ${request.title}`] : none];
-    return ['Digest', digest(one, 'the digest'), as];
+    return ['Digest', digest(one, 'the digest'), [listed, known ? whose(one, known) : '']];
 }
 
 /** @param {string} one @param {Known | null} known */

@@ -1,7 +1,7 @@
 // For officers: a certificate or a digest is listed. One officer does it alone.
 
 import { act, refusalBox } from './act.js';
-import { known, onceAtATime, settled } from './asking.js';
+import { onceAtATime, settled } from './asking.js';
 import { certificateFacts, certificateFile } from './certificates.js';
 import {
     answers, box, buttons, done, faulty, field, fill, h, line, p, quiet, strong, submitButton, sure,
@@ -11,6 +11,7 @@ import { besideOf, noFacts, postImage } from './images.js';
 import { barPlace } from './sending.js';
 import { colonDoubts, digestDoubts } from '../desk/doubts.js';
 import { Command, jsonCommand } from '../desk/journal.js';
+import { known } from '../desk/known.js';
 import { imageDoubts, knownBodies, signerDoubts } from '../desk/signer.js';
 import { changed, standing } from '../desk/standing.js';
 import { digestTyped } from '../formats/digests.js';
@@ -121,7 +122,7 @@ function digestForm(sends) {
         const odd = hex ? '' : 'A digest is 64 hexadecimal digits.';
         if (faulty([input, odd]) || !hex) return undefined;
         fill(said, quiet('Reading from the desk…'));
-        const all = await known();
+        const all = await known({ digests: [hex], certificates: [], components: [] });
         fill(said);
         if ('kind' in all) return fill(said, refusalBox(all));
         // (that it has two digests matters to a revocation alone)

@@ -1,7 +1,7 @@
 // One proposal: everything that it names, what a Confirm of it would do, and the decision.
 
 import { act, anew, read, reading, refusalBox } from './act.js';
-import { doubtList, known } from './asking.js';
+import { doubtList } from './asking.js';
 import { whyLink } from './calls.js';
 import { confirmation, proposalDoubts } from './confirm.js';
 import {
@@ -16,6 +16,7 @@ import { closedBy } from './why.js';
 import { get } from '../desk/api.js';
 import { matching } from '../desk/answers.js';
 import { Command } from '../desk/journal.js';
+import { known } from '../desk/known.js';
 import { plainQuestion } from '../desk/questions.js';
 import { reasonsOf } from '../desk/reasons.js';
 import { explained } from '../desk/refusals.js';
@@ -63,7 +64,7 @@ async function whole(place, proposal) {
     );
     reasonsOf(number).then((answer) => fill(reasons, whyPart(answer)));
     const impactOf = isOpen ? get(`/proposals/${number}/impact`) : null;
-    const [all, looked] = await Promise.all([known(), impactOf]);
+    const [all, looked] = await Promise.all([known(proposal), impactOf]);
     const isKnown = !('kind' in all);
     fill(items, itemsPart(proposal, isKnown ? all : null), isKnown ? null : refusalBox(all));
     if (!looked) return;

@@ -10,7 +10,7 @@ import { requestLink } from './marks.js';
 import { barPlace, compared, sent } from './sending.js';
 import { get } from '../desk/api.js';
 import { Command } from '../desk/journal.js';
-import { listed } from '../desk/lists.js';
+import { requestsWith } from '../desk/lists.js';
 import { twiceQuestion } from '../desk/questions.js';
 import { me } from '../desk/session.js';
 import { authenticode } from '../formats/pe.js';
@@ -18,7 +18,6 @@ import { wire } from '../formats/wire.js';
 import { textFault } from '../formats/words.js';
 
 /** @typedef {import('./files.js').Chosen} Chosen */
-/** @typedef {import('../desk/types.js').Request} Request */
 
 const HINT = 'What it is, as reviewers read it: package, version, architecture.';
 
@@ -64,15 +63,13 @@ export function submitView(place) {
 // Says where the caller submitted the same file before, or its image in another one.
 /** @param {Chosen} chosen */
 async function before({ bytes, sha256 }) {
-    const answer = await listed('requests');
+    const digests = await authenticode(bytes).catch(() => []);
+    const answer = await requestsWith([sha256, ...digests]);
     if (answer.kind !== 'value') {
         return [p('Whether the same file was submitted before can’t be read:'), refusalBox(answer)];
     }
-    /** @type {Request[]} */
-    const requests = answer.value;
-    const own = requests.filter(({ submitter }) => submitter === me.name);
-    const twice = twiceQuestion(own, sha256)
-        ?? twiceQuestion(own, sha256, await authenticode(bytes).catch(() => []));
+    const own = answer.value.filter(({ submitter }) => submitter === me.name);
+    const twice = twiceQuestion(own, sha256, digests);
     if (!twice) return null;
     const { number, words } = twice;
     return box('care', p(words), p(requestLink(number, `Look at request ${number}`)));

@@ -7,7 +7,6 @@ import {
 import { fileField, noFile } from './files.js';
 import { matchPart, noFacts, postImage, unreadPart } from './images.js';
 import { barPlace } from './sending.js';
-import { listed } from '../desk/lists.js';
 import { carriedWords } from '../desk/questions.js';
 import { standing } from '../desk/standing.js';
 import { issuerNames, signaturesOf } from '../formats/pkcs7.js';
@@ -64,11 +63,9 @@ function whyPart({ file: { name }, sha256 }, facts) {
 // The facts of the image, beside the request whose it is.
 /** @param {Chosen} chosen @param {HTMLElement} bar */
 async function factsOf(chosen, bar) {
-    const [answer, requests] = await Promise.all(
-        [postImage('/facts', chosen, bar), listed('requests')],
-    );
+    const answer = await postImage('/facts', chosen, bar);
     if (answer.kind !== 'value') return [whyPart(chosen, null), await unreadPart(answer, chosen)];
-    return [whyPart(chosen, answer.value), await matchPart(chosen, answer.value, requests)];
+    return [whyPart(chosen, answer.value), await matchPart(chosen, answer.value)];
 }
 
 const ISSUER_LISTED = 'Its signer’s issuer is listed; the desk compares what the image carries.';
