@@ -28,7 +28,7 @@ from checks.support.server import Server
 from checks.support.steps import (
     confirms, lists, named, proposes, raising, reason, returns, reviews, submits, takes, vote
 )
-from checks.support.wire import wire
+from checks.support.wire import filled, wire
 
 pytestmark = pytest.mark.needs("sqlite3")
 
@@ -56,7 +56,7 @@ WITHDRAW = posted("rita", "new", "/requests/2/withdraw", b"")
 CONFIRM = posted("otto", "new", "/proposals/4/confirm", b"")
 DROP = posted("otto", "new", "/proposals/4/drop", b"")
 EXPLAIN = posted("otto", "new", "/proposals/4/explain", reason("lost"))
-SHOWN = [got("ann", "/requests"), got("ann", "/requests/1")]
+SHOWN = [got("ann", f"/requests{one}") for one in ("", "/1", f"/with/{HASHED}")]
 LISTING = posted("olga", "new", "/db/digests", named(BB))
 VERDICT = posted("ann", "unused", "/verdict", IMAGE)
 ROUTES = [
@@ -67,7 +67,7 @@ ROUTES = [
 # fourth proposal, and of the first of what else has a number.
 EACH = [
     *(
-        got("olga", path.replace("{no}", "4" if "proposals" in path else "1"))
+        got("olga", filled(path, "4" if "proposals" in path else "1", HASHED))
         for method, path in ROUTES if method == "get"
     ),
     posted("ann", "new", "/requests", PLAIN, ("Desk-Title", "C")), REVIEW, WITHDRAW, RETURN.given,
@@ -286,7 +286,7 @@ def test_each_table_of_a_desk_has_a_spoilt_row(sound: str) -> None:
 def test_each_route_is_asked() -> None:
     def route(given: bytes) -> tuple[str, str]:
         method, path, _ = given.decode("latin-1").split(" ", 2)
-        return method, re.sub(r"/\d+", "/{no}", path)
+        return method, re.sub(r"/\d+", "/{no}", path.replace(HASHED, "{digest}"))
 
     due = [(method.upper(), path) for method, path in ROUTES]
     expect(sorted(route(given) for given in EACH), sorted(due), "the routes")

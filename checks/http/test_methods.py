@@ -8,7 +8,7 @@ from typing import Iterator
 from checks.support.messages import refused, request, token
 from checks.support.says import expect
 from checks.support.server import Server
-from checks.support.wire import wire
+from checks.support.wire import filled, wire
 
 FIELDS = [("Desk-Token", token("olga")), ("Desk-Key", "unused")]
 
@@ -19,7 +19,7 @@ def others() -> Iterator[tuple[str, str, str]]:
         has = sorted(method.upper() for method in operations)
         for method in ("GET", "HEAD", "POST", "DELETE"):
             if method not in has:
-                yield path.replace("{no}", "1"), method, ", ".join(has)
+                yield filled(path), method, ", ".join(has)
 
 
 def test_another_method_is_refused_and_the_response_names_those_that_the_path_has(

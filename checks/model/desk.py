@@ -237,6 +237,9 @@ class Desk:
         what, number, part = asked.parts()
         if number == "from" and part is not None:
             return self.part(caller, what, int(part))
+        if number == "with" and part is not None:
+            having = [one for one in self.shown_to(caller) if one.has(part.lower())]
+            return ok([one.shown() for one in having[:1000]])
         if what == "waiting":
             requests, proposals = self.waiting(caller)
             return waiting([one.shown() for one in requests], [one.row() for one in proposals])

@@ -149,6 +149,13 @@ class Request:
             return "rejected"
         return "approved" if votes.count("yes") >= 2 else "open"
 
+    def has(self, digest: str) -> bool:
+        """Whether a search by the digest finds it."""
+        facts, returned = self.facts, self.returned
+        images = [facts] if returned is None else [facts, returned]
+        names = [name for one in images for name in (one.file, one.digest)]
+        return digest in (*names, facts.signing, *facts.carried)
+
     def shown(self) -> dict[str, Any]:
         votes = [
             {"note": note, "reviewer": reviewer, "vote": vote}

@@ -117,6 +117,15 @@ class Parts:
         """The digest of a certificate."""
         return tbs_of(self.certificate()) or ""
 
+    def searched(self) -> str:
+        """What a request may be found by: mostly a digest of one, or of what was returned for
+        it."""
+        if not self.desk.requests or self.often(0.1):
+            return self.written(self.random.randbytes(32).hex())
+        request = self.one(self.desk.requests)
+        facts = request.returned if request.returned and self.often(0.5) else request.facts
+        return self.written(self.one([facts.file, facts.digest, facts.signing, *facts.carried]))
+
     def stamp(self) -> int:
         """Mostly one above the level's."""
         return self.desk.force.stamp + (

@@ -16,7 +16,7 @@ from checks.model import wishes
 from checks.support.days import DAYS
 from checks.support.refusals import REFUSED
 from checks.support.steps import Step
-from checks.support.wire import COMMANDS, REFUSALS, wire
+from checks.support.wire import COMMANDS, REFUSALS, filled, wire
 
 Operation = Tuple[str, str]
 
@@ -181,7 +181,7 @@ def parted(message: bytes) -> Tuple[str, Dict[str, str], bytes]:
 
 def operation_at(path: str, method: str) -> Optional[Operation]:
     for told, its in operations():
-        if its == method.lower() and re.fullmatch(told.replace("{no}", "[^/]+"), path):
+        if its == method.lower() and re.fullmatch(filled(told, "[^/]+", "[^/]+"), path):
             return told, its
     return None
 
