@@ -8,7 +8,7 @@ import time
 from pathlib import Path
 from typing import Iterator
 
-from rows import History, Line, filled
+from rows import History, Line, digest_of, filled
 
 from checks.support.browser import Browser
 from checks.support.deskctl import Person, compiled
@@ -87,8 +87,11 @@ def answers(server: Server, proxy: Nginx) -> None:
     print("seconds of the desk's processor time, and bytes behind nginx")
     for name, path, times in (
         ("rita", "/requests", 1), ("rita", "/requests/from/1", 5), ("rita", "/waiting", 3),
+        ("otto", f"/requests/with/{'0' * 64}", 5),
         ("rita", "/changes", 50), ("ann", "/waiting", 3), ("ann", "/changes", 3),
         ("sid", "/waiting", 3), ("otto", "/proposals", 20), ("otto", "/waiting", 50),
+        *((name, f"/requests/with/{digest_of(kind, 1).hex()}", 3)
+          for name, kind in (("otto", "proposed"), ("otto", "image"), ("ann", "image"))),
     ):
         print(
             f"  {name} GET {path}: {asks(server, name, path, times):.6f} s,"
