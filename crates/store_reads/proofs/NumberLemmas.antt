@@ -1,5 +1,5 @@
 -- The answer of a search for the numbers of requests by a digest, for each column.
-use Rattle.std.proofs.Common.{◌≡◌, ℕ, List, [], ◌∷◌, bytes_eq, refl, codes}
+use Rattle.std.proofs.Common.{ℕ, List, [], ◌∷◌, bytes_eq, refl, codes}
 use Rattle.std.specs.List.Sorted.{IsPermutation}
 use Rattle.sqlite.specs.State.{State}
 use Rattle.sqlite.specs.declared.types.Value.TheVariants.{Blob}
