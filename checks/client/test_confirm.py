@@ -104,7 +104,8 @@ def signed(office: Office) -> Office:
     office["sid"].does("return 2 returned.efi --yes")
     named = [sha256(ODD), authenticode(ODD), sha256(RETURNED), TBS]
     words = " ".join(f"--digest {one}" for one in named)
-    office["olga"].does(f"revoke {words} --certificate {TBS} --yes", "proposal 1")
+    line = f"revoke {words} --certificate {TBS} --yes"
+    office["olga"].does(line, "proposal 1", err=["request 1 (open, odd) has two digests"])
     return office
 
 

@@ -16,7 +16,8 @@ from kovelamiru.desk import PART, Desk
 from kovelamiru.deskctl import returns, submits
 from kovelamiru.facts import Facts
 from kovelamiru.faults import Lost, NoPath, Refused, Stop
-from kovelamiru.http import BYTES, JSON, TEXT, Answer, Call
+from kovelamiru.http import BYTES, JSON, TEXT, Answer, Call, address
+from kovelamiru.terminal import Terminal
 
 
 
@@ -25,6 +26,7 @@ def of(byte: int) -> str:
 
 
 FILE, DIGEST, RETURNED, SIGNING, LONE, MANY, NOBODYS = map(of, range(1, 8))
+TOKEN = of(0xA5)
 
 
 def request(number: int, **more: Any) -> dict[str, Any]:
@@ -63,6 +65,8 @@ class Held(Desk):
     """A desk that holds these requests; by `lacks` it has no search, or what is before it."""
 
     def __init__(self, held: Sequence[dict[str, Any]], lacks: Optional[Stop] = None) -> None:
+        terminal = Terminal(io.StringIO(), io.StringIO())
+        super().__init__(address("https://desk.example"), None, TOKEN, terminal, "", "")
         self.held, self.lacks = held, lacks
         self.asked: list[str] = []
 
@@ -146,6 +150,15 @@ def test_many_digests_and_other_words_are_looked_for_in_the_list() -> None:
         expect({path[:5] for path in desk.requests()}, {way}, f"{len(few + more)} digests")
 
 
+@pytest.mark.parametrize("token", (TOKEN, TOKEN.upper()))
+def test_a_token_that_was_typed_as_a_digest_goes_into_no_address(token: str) -> None:
+    """It may have a digest's form; the list is read then."""
+    desk = Held(HELD)
+    found = told(desk, [DIGEST, token], [])
+    expect(found, told(older(), [DIGEST, token], []), "what is told")
+    expect([path for path in desk.asked if TOKEN in path.lower()], [], "the addresses with it")
+
+
 def test_behind_the_first_thousand_the_list_goes_on() -> None:
     """For a digest. Of a certificate they tell all that is told."""
     held = [request(number, digest=DIGEST, carried=[MANY]) for number in range(1, PART + 2)]
@@ -164,15 +177,13 @@ def test_behind_the_first_thousand_the_list_goes_on() -> None:
 ])
 def test_of_a_thousand_requests_of_a_file_the_list_is_read(count: int, parts: list[str]) -> None:
     """Before a submission, and before a return."""
-    one = submits.Image("a.efi", b"no image", "a title")
-    held = [request(number, file=one.sum()) for number in range(1, count + 1)]
-    other = returns.Image("a.efi", b"", Facts(512, 0, of(90), one.sum(), one.sum(), [], []))
+    image = returns.Image("a.efi", b"", Facts(512, 0, of(90), FILE, FILE, [], []))
     ways: list[Callable[[Any], list[Request]]] = [
-        lambda run: submits.alike(run, [one]), lambda run: returns.candidates(run, [other])]
+        lambda run: submits.alike(run, {FILE}), lambda run: returns.candidates(run, [image])]
     for ask in ways:
-        desk = Held(held)
+        desk = Held([request(number, file=FILE) for number in range(1, count + 1)])
         found = ask(run_at(desk))
-        expect((len(found), desk.requests()), (count, [f"with/{one.sum()}", *parts]), "requests")
+        expect((len(found), desk.requests()), (count, [f"with/{FILE}", *parts]), "requests")
 
 
 @pytest.mark.parametrize("digests, numbers, asked", [

@@ -41,10 +41,8 @@ SEARCHES = [
     takes("olga", "k1", "/db/certificates", CERTIFICATE, {"reply": "listed"}),
     finds("sid", sha256(RETURNED), []),
     returns("sid", "k1", 1, RETURNED),
-    *(
-        finds(name, searched, rows)
-        for searched, rows in FOUND.items() for name in ("rita", "rosa", "sid", "olga")
-    ),
+    *(finds("rosa", searched, rows) for searched, rows in FOUND.items()),
+    *(finds(name, signing(ODD), [FIRST, SECOND]) for name in ("rita", "sid", "olga")),
     # A submitter is shown own ones alone.
     *(
         finds("ann", searched, [one for one in rows if one["submitter"] == "ann"])

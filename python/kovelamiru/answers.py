@@ -11,7 +11,8 @@ from .http import Call
 from .words import HEX, KINDS, printable
 
 T = TypeVar("T")
-# So many digests at most are searched for.
+# So many digests at most are searched for: for each the desk looks through all requests, and for
+# some thirty that takes as long as giving the list.
 MOST = 20
 
 
@@ -138,8 +139,8 @@ def request_of(desk: Desk, number: int) -> Request:
 
 
 def having(desk: Desk, digests: Collection[str]) -> Optional[Having]:
-    """The requests that have one of these; nothing where the list is to be read, of an older desk
-    or for many digests."""
+    """The requests that have one of these; nothing where the list is to be read: for many, for what
+    is no digest, at an older desk."""
     if len(digests) > MOST or not all(map(HEX.match, digests)):
         return None
     found: dict[int, Request] = {}

@@ -145,7 +145,9 @@ class Desk(Site):
 
     def requests_with(self, digest: str) -> Optional[list[dict[str, Any]]]:
         """The first PART requests that have a digest; nothing where the desk, or the proxy before
-        it, is older than the route."""
+        it, is older than the route, or where the caller's token was typed as one."""
+        if self.is_token(digest):
+            return None
         try:
             answer = self.if_there(Call("GET", f"/requests/with/{digest}"))
         except NoPath:

@@ -191,6 +191,10 @@ class Site:
         self.heard: Callable[[int], None] = lambda _: None
         self.__token = token
 
+    def is_token(self, text: str) -> bool:
+        """Whether a text is the caller's token, in letters of either case."""
+        return text.lower() == self.__token.lower()
+
     def seconds(self, most: float) -> float:
         """So many, or as many as are left before the asking ends."""
         return max(min(most, self.until - time.monotonic()), LEAST_SECONDS)

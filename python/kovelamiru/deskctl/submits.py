@@ -3,7 +3,7 @@ from __future__ import annotations
 
 import hashlib
 from dataclasses import dataclass
-from typing import Any, Optional, Sequence
+from typing import Any, Collection, Optional, Sequence
 
 from ..answers import Request, having, me_of, said_number, shaped
 from ..described import LIMITS
@@ -53,24 +53,25 @@ def images_of(run: Run) -> list[Image]:
     return [Image(*each) for each in zip(paths, read, titles)]
 
 
-def alike(run: Run, images: Sequence[Image]) -> list[Request]:
-    """The requests that have one of these files or of their images, and perhaps others."""
-    texts = {text for one in images for text in (one.sum(), *digests_in(one.data))}
-    found = having(run.desk, texts)
+def alike(run: Run, digests: Collection[str]) -> list[Request]:
+    """The requests that have one of these digests, and perhaps others."""
+    found = having(run.desk, digests)
     if found and not found.cut:
         return found.requests
-    return [shaped(Request, value) for value in run.desk.listed("/requests", texts=texts)]
+    return [shaped(Request, value) for value in run.desk.listed("/requests", texts=digests)]
 
 
 def submit_asks(run: Run, images: Sequence[Image]) -> None:
     """Before a file or an image that the caller has submitted before, where a person can be asked:
     a script means it."""
-    if not run.terminal.can_ask:
+    me = me_of(run.desk) if run.terminal.can_ask else None
+    if me is None:
         return
-    me = me_of(run.desk)
-    own = [one for one in alike(run, images) if one.submitter == me.name] if me else []
-    asks = [f"{printable(one.path)}: {doubt}" for one in images
-            for doubt in [twice_question(own, one.sum(), digests_in(one.data))] if doubt]
+    sums = [(one.path, one.sum(), digests_in(one.data)) for one in images]
+    found = alike(run, {text for _, file, digests in sums for text in (file, *digests)})
+    own = [one for one in found if one.submitter == me.name]
+    asks = [f"{printable(path)}: {doubt}" for path, file, digests in sums
+            for doubt in [twice_question(own, file, digests)] if doubt]
     if asks:
         run.terminal.ask(asks, "Submit it again? Type yes:")
 
