@@ -9,6 +9,7 @@ from checks.support.messages import token
 from checks.support.says import expect
 from checks.support.steps import named
 from checks.support.tools import ROOT
+from checks.support.waits import until
 from checks.support.wire import filled, wire
 
 MOST_IMAGE, MOST_BODY = 134_217_728, 4_194_304
@@ -80,6 +81,16 @@ def test_a_token_in_a_path_is_in_no_log(site: Site) -> None:
     words = ["-Z", "--parallel-max", "10", "-o", "/dev/null"]
     clients = [[*words, f"{site.nginx.base}/{path}#[1-30]"] for path in paths]
     expect(set(site.flood(clients)), {404}, "many")
+
+
+def test_the_log_has_no_digest_that_is_searched_for(site: Site) -> None:
+    """A token of `openssl rand -hex 32` has its form. (error.log has raw paths.)"""
+    digests = ["ab" * 32, "AB" * 32]
+    for digest in digests:
+        expect(site.ask("olga", f"/requests/with/{digest}").body, b"[]", digest)
+    line = " GET /requests/with/ 200 "
+    until(10, "both in the log", lambda: site.nginx.log.count(line) == 2, lambda: site.nginx.log)
+    expect([one for one in digests if one in site.nginx.log], [], "digests in the log")
 
 
 def test_a_closed_site_answers_nobody_and_keeps_nothing(site: Site) -> None:
