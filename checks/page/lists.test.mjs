@@ -4,6 +4,7 @@ import assert from 'node:assert/strict';
 import { test } from 'node:test';
 
 import './cases.mjs';
+import { setToken } from '../../page/desk/api.js';
 import { listed, requestsWith } from '../../page/desk/lists.js';
 
 let asked = [];
@@ -86,6 +87,17 @@ test('for more digests than 20 the list is read', async () => {
     const all = desk(1100);
     assert.deepEqual(await requestsWith(digests(21)), { kind: 'value', value: all });
     assert.deepEqual(asked, ['/requests/from/1', '/requests/from/3000']);
+});
+
+test('a token that was typed as a digest goes into no address', async () => {
+    const hex = 'ab'.repeat(32);
+    for (const token of [hex, hex.toUpperCase()]) {
+        const all = desk(7);
+        setToken(token);
+        assert.deepEqual(await requestsWith([...digests(2), hex]), { kind: 'value', value: all });
+        setToken('');
+        assert.deepEqual(asked, ['/requests/from/1']);
+    }
 });
 
 test('where more requests may have a digest than one answer tells, the list is read', async () => {

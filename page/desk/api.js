@@ -46,6 +46,10 @@ export const whose = (text) => once('/me', 'json', person.signal, text);
 /** @returns {Promise<any>} */
 const never = () => new Promise(() => {});
 
+// Whether a digest, in small letters, is the token that is in use.
+/** @param {string} digest */
+export const isOwnToken = (digest) => digest === token.toLowerCase();
+
 /** @param {string} text */
 export function isToken(text) {
     return /^[!-~]{16,128}$/.test(text);

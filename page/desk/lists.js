@@ -1,7 +1,7 @@
 // The lists of requests and of proposals, read in parts; of an older desk, which has none, whole.
 // And the requests that have one of a few digests.
 
-import { get } from './api.js';
+import { get, isOwnToken } from './api.js';
 
 /**
  * @typedef {import('./types.js').Request} Request
@@ -50,7 +50,8 @@ export async function listed(name, take = () => {}, first = 1) {
  */
 export async function requestsWith(digests) {
     const asked = [...new Set(digests)];
-    if (asked.length > MOST) return listed('requests');
+    // (a token may have a digest's form, and goes into no address)
+    if (asked.length > MOST || asked.some(isOwnToken)) return listed('requests');
     /** @type {Map<number, Request>} */
     const found = new Map();
     for (let at = 0; at < asked.length; at += AT_ONCE) {
