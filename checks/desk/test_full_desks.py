@@ -91,14 +91,14 @@ def shown_row(
 def test_a_desk_has_100_000_requests(desk: Program, filled: Filled) -> None:
     path = filled(
         "99999 requests"
-        f" SELECT i, 'rosa', 'title ' || i, 1024, 0, {BLOB}, {BLOB}, {BLOB}, 'open'"
+        f" SELECT i, 'rosa', 'title ' || i, 1024, 0, {BLOB}, {BLOB}, X'{digest('ab')}', 'open'"
     )
     mine = shown_row(100_000, "ann", "the last", (sha256(PLAIN), authenticode(PLAIN)))
     title = ("Desk-Title", "the last")
     submitted: dict[str, object] = {"reply": "submitted", "request": 100_000}
     others = [
         shown_row(number, "rosa", f"title {number}", (blob(number), blob(number)))
-        for number in range(1, 100_000)
+        | {"signing": digest("ab")} for number in range(1, 100_000)
     ]
     steps = [
         submits("ann", "k1", PLAIN, "the last", 100_000),
@@ -106,6 +106,10 @@ def test_a_desk_has_100_000_requests(desk: Program, filled: Filled) -> None:
         again("ann", "k1", "/requests", PLAIN, submitted, title),
         reads("ann", "/requests", ok([mine])),
         reads("rita", "/requests", ok([*others, mine])),
+        reads("rita", "/requests/from/99000", ok(others[-1000:])),
+        reads("rita", f"/requests/with/{digest('ab')}", ok(others[:1000])),
+        reads("rita", f"/requests/with/{blob(99_999)}", ok(others[-1:])),
+        reads("ann", f"/requests/with/{digest('ab')}", ok([])),
         takes(
             "ann", "k3", "/requests/100000/withdraw", b"",
             {"reply": "withdrawn", "request": 100_000},

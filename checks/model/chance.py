@@ -219,7 +219,7 @@ class Chance(Parts):
             f"/requests/from/{self.random.randint(1, len(self.desk.requests) + 1)}",
             f"/proposals/from/{self.random.randint(1, len(self.desk.proposals) + 1)}", "/waiting",
             "/changes", f"/minutes/{minutes}", "/proposals", "/people", "/me", "/report", "/level",
-            "/dbx", "/db", *(f"/requests/with/{self.searched()}" for _ in range(3))
+            "/dbx", "/db", f"/requests/with/{self.searched()}"
         ]
         if self.often(0.4):
             return Asked(token(caller), "POST", self.one(["/verdict", "/facts"]), body=self.image())

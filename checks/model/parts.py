@@ -118,12 +118,13 @@ class Parts:
         return tbs_of(self.certificate()) or ""
 
     def searched(self) -> str:
-        """What a request may be found by: mostly a digest of one, or of what was returned for
-        it."""
-        if not self.desk.requests or self.often(0.1):
+        """What requests are looked for by: mostly a digest of one, or of what was returned."""
+        some = [one.facts for one in self.desk.requests]
+        if self.often(0.5):
+            some = [one.returned for one in self.desk.requests if one.returned] or some
+        if not some or self.often(0.1):
             return self.written(self.random.randbytes(32).hex())
-        request = self.one(self.desk.requests)
-        facts = request.returned if request.returned and self.often(0.5) else request.facts
+        facts = self.one(some)
         return self.written(self.one([facts.file, facts.digest, facts.signing, *facts.carried]))
 
     def stamp(self) -> int:

@@ -24,7 +24,7 @@ from checks.support.says import expect
 from checks.support.server import Server
 
 # How many requests `lists` sends.
-LISTS = 7
+LISTS = 11
 
 
 def bytes_of(asked: Asked) -> bytes:
@@ -100,10 +100,13 @@ class Walk:
             self.chance.submitted.append(unsigned(asked.body))
 
     def lists(self, server: Server) -> None:
-        """The requests as a submitter, a reviewer and an officer see them, and what waits for each
-        role."""
+        """The requests as a submitter, a reviewer and an officer see them, some by digests, and
+        what waits for each role."""
         for name in ("ann", "rita", "olga"):
             self.asks(server, self.chance.get(name, "/requests"), "lists")
+        for name in ("ann", "rita", "olga", "rita"):
+            path = f"/requests/with/{self.chance.searched()}"
+            self.asks(server, self.chance.get(name, path), "lists")
         for name in ("ann", "rita", "otto", "sid"):
             self.asks(server, self.chance.get(name, "/waiting"), "lists")
 
