@@ -173,7 +173,8 @@ def test_behind_the_first_thousand_the_list_goes_on() -> None:
 
 
 @pytest.mark.parametrize("count, parts", [
-    (PART - 1, []), (PART, ["from/1", "from/1001"]), (PART + 1, ["from/1", "from/1001", "from/1002"])
+    (PART - 1, []), (PART, ["from/1", "from/1001"]),
+    (PART + 1, ["from/1", "from/1001", "from/1002"]),
 ])
 def test_of_a_thousand_requests_of_a_file_the_list_is_read(count: int, parts: list[str]) -> None:
     """Before a submission, and before a return."""

@@ -21,8 +21,8 @@ from checks.support.waits import until
 COLONS = ":".join(["AB"] * 32)
 IN_ANOTHER = "image was submitted before in another file"
 DIGESTS, TBS = "Digests, one a line", "Or the SHA-256 of its TBSCertificate"
-# What is proposed by a slip: where, by which fact of a request, what is said of it, and as what it is
-# known.
+# What is proposed by a slip: where, by which fact of a request, what is said of it, and as what it
+# is known.
 PROPOSED = (
     ("/dbx/digests", "file", "is the SHA-256 of the whole file of request 1",
      "1: a whole file, no image"),

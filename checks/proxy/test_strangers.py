@@ -86,8 +86,8 @@ def test_a_token_in_a_path_is_in_no_log(site: Site) -> None:
 def test_the_log_has_no_digest_that_is_searched_for(site: Site) -> None:
     """A token of `openssl rand -hex 32` has its form. (error.log has raw paths.)"""
     digests = ["ab" * 32, "AB" * 32]
-    for digest in digests:
-        expect(site.ask("olga", f"/requests/with/{digest}").body, b"[]", digest)
+    for one in digests:
+        expect(site.ask("olga", f"/requests/with/{one}").body, b"[]", one)
     line = " GET /requests/with/ 200 "
     until(10, "both in the log", lambda: site.nginx.log.count(line) == 2, lambda: site.nginx.log)
     expect([one for one in digests if one in site.nginx.log], [], "digests in the log")
