@@ -3,6 +3,8 @@
 
 definitions  each file of specs/ with its subject, and the words that it defines with their comments
 clauses      each public call with its comment, what it requires and what it ensures
+believed     the definitions that the headline and the exports hang on: each file's lines and words,
+             the lowest crate's first; then the types of the code, and the kit's words
 sql          each SQL text over a desk's tables, with its constant and the clause of the table's law
 tests        what each file of checks/ shows, each crate's tests, and its wrong bodies, the
              gate's first
@@ -21,6 +23,7 @@ from typing import Dict, Iterator, List, Sequence, Tuple
 ROOT = os.path.dirname(os.path.dirname(os.path.realpath(__file__)))
 sys.path.insert(0, ROOT)
 from checks.clauses.clauses import Clause, calls_in, calls_of, crates, public_names  # noqa: E402
+from docs.believed import believed  # noqa: E402
 
 
 def read(path: str) -> str:
@@ -243,11 +246,14 @@ def lacking() -> List[str]:
 
 def main(words: Sequence[str]) -> None:
     unknown = [crate for crate in words[1:] if crate not in crates(ROOT)]
-    if not words or unknown or words[0] not in ("definitions", "clauses", "sql", "tests"):
+    kinds = ("definitions", "believed", "clauses", "sql", "tests")
+    if not words or unknown or words[0] not in kinds:
         sys.exit(__doc__ if not unknown else f"docs/print.py: no crate {unknown[0]}")
     chosen = words[1:] or crates(ROOT)
     if words[0] == "definitions":
         print_definitions(chosen)
+    elif words[0] == "believed":
+        print("\n".join(believed(ROOT)))
     elif words[0] == "clauses":
         print_clauses(chosen)
     elif words[0] == "tests":

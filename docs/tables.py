@@ -1,5 +1,6 @@
 #!/usr/bin/env -S python3 -B
-"""Writes the tables of page/wire/ into the pages that show them: docs/tables.py [--check].
+"""Writes the tables of page/wire/, and that of the definitions to be believed, into the pages that
+show them: docs/tables.py [--check].
 
 A line `<!-- NAME, by docs/tables.py -->` stands above each table, which ends at an empty line.
 With --check nothing is written: each table that differs is named, and the status is 1.
@@ -14,7 +15,10 @@ from pathlib import Path
 from typing import Any, Callable, Dict, List, Sequence
 
 ROOT = Path(__file__).resolve().parent.parent
-PAGES = ("docs/REFUSALS.md", "docs/FORMATS.md")
+sys.path.insert(0, str(ROOT))
+from docs.believed import by_crate  # noqa: E402
+
+PAGES = ("docs/REFUSALS.md", "docs/FORMATS.md", "docs/DEFINITIONS.md")
 MARKED = re.compile(r"(?m)^<!-- (\w+), by docs/tables\.py -->\n((?:\|.*\n)+)")
 
 
@@ -55,7 +59,17 @@ def kinds() -> str:
     return table(("Kind", "GUID", "As stored", "Entry"), rows)
 
 
-TABLES: Dict[str, Callable[[], str]] = {"refusals": refusals, "statuses": statuses, "kinds": kinds}
+def believed() -> str:
+    """The definitions that the headline and the exports hang on, by crate."""
+    return table(("Crate", "Files of its specs/, with their lines", "Lines"), by_crate(str(ROOT)))
+
+
+TABLES: Dict[str, Callable[[], str]] = {
+    "refusals": refusals,
+    "statuses": statuses,
+    "kinds": kinds,
+    "believed": believed,
+}
 
 
 def differing(write: bool) -> List[str]:
