@@ -5,7 +5,7 @@ ghost use Rattle.pe_image.specs.Hashed.{hashed_bytes};
 ghost use Rattle.pe_image.specs.Places.{IsLayoutOf, places_of};
 ghost use Rattle.pe_image.specs.Sources.{HaveRisen, OnlyReads};
 ghost use Rattle.pe_image.specs.Spans.{EndWithin, bytes_at};
-ghost use Rattle.authenticode.specs.Hashing.{image_digest, padding_of, signed_bytes, signed_digest};
+ghost use Rattle.authenticode.specs.Hashing.{image_digest, padding_of, signed_bytes};
 
 use base::Digest;
 use pe_image::{Layout, PIECE, Ranges, ReadFailed, Source, Span, ranges, table};
@@ -55,20 +55,6 @@ pub(crate) fn feed_ranges<S: Source>(
     Ok(())
 }
 
-/// A hasher that has taken the bytes to hash.
-fn hash_image<S: Source>(source: &mut S, layout: &Layout) -> Result<Sha256, ReadFailed>
-    requires { IsLayoutOf (S.content source.old) layout.now }
-    ensures ok { IfOk result (λ hasher. Holds256 hasher (hashed_bytes (S.content source.old))) }
-
-    ensures device { OnErr result (HaveRisen (S.failures source.old) (S.failures source.new)) }
-
-    ensures reads { OnlyReads S.content S.failures source.old source.new }
-{
-    let mut hasher = Sha256::new();
-    feed_ranges(source, ranges(layout), &mut hasher)?;
-    Ok(hasher)
-}
-
 /// The number of bytes that a length lacks to a multiple of 8.
 fn padding_size(length: u64) -> usize
     ensures value { result ≡ padding_of length }
@@ -98,23 +84,7 @@ pub fn digest<S: Source>(source: &mut S, layout: &Layout) -> Result<Digest, Read
 
     ensures reads { OnlyReads S.content S.failures source.old source.new }
 {
-    let hasher = hash_image(source, layout)?;
-    Ok(Digest::from(hasher.finalize()))
-}
-
-/// The digest that a signature of an image holds: that of the image, or, if it has no certificate
-/// table, that of the image padded with the zero bytes that appending a table adds. The layout must
-/// be that of the source. It reads as `digest` does and takes no memory.
-pub fn signing_digest<S: Source>(source: &mut S, layout: &Layout) -> Result<Digest, ReadFailed>
-    requires { IsLayoutOf (S.content source.old) layout.now }
-    ensures exact { IfOk result (λ digest. digest ≡ signed_digest (S.content source.old)) }
-
-    // A fault is returned only if the source's failure count rose or was already at its maximum.
-    ensures device { OnErr result (HaveRisen (S.failures source.old) (S.failures source.new)) }
-
-    ensures reads { OnlyReads S.content S.failures source.old source.new }
-{
-    let mut hasher = hash_image(source, layout)?;
-    pad(&mut hasher, layout, source.len());
+    let mut hasher = Sha256::new();
+    feed_ranges(source, ranges(layout), &mut hasher)?;
     Ok(Digest::from(hasher.finalize()))
 }

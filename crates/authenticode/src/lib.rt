@@ -14,7 +14,7 @@ mod walk;
 
 pub use carrying::carried;
 pub use fault::CarriedFault;
-pub use hashing::{digest, signing_digest};
+pub use hashing::digest;
 pub use image_sums::Sums;
 pub use laws::{
     carried_is_not_refused, carried_is_one, certificates_are_nested, fault_is_one,

@@ -18,6 +18,10 @@ ForEachShown shows told = (owner : List ℕ) (cs : History) → shows owner cs �
 abbrev pub StillShows : (List ℕ → History → Type 0) → (List ℕ → History → Type 0) → Type 0
 StillShows before after = (owner : List ℕ) (cs : History) → before owner cs → after owner cs
 
+-- a stop leaves what was shown
+abbrev pub LeavesShown : (List ℕ → History → Type 0) → (List ℕ → History → History → Type 0) → Type 0
+LeavesShown shows leaves = ForEachShown shows (λ owner cs. leaves owner cs cs)
+
 -- the person who has the token of this SHA-256
 abbrev pub person_with : List ℕ → History → Option Person
 person_with token cs = find (has_token token) (people cs)

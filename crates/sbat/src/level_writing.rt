@@ -1,11 +1,10 @@
-//! The writing of levels.
+//! The writing of levels, line by line.
 ghost use Rattle.std.specs.Prelude.{OnErr, OnOk};
 ghost use Rattle.std.specs.Io.KnownBytes.{Appends};
 ghost use Rattle.base.specs.Output.{AppendsBeginning};
-ghost use Rattle.sbat.specs.Writing.{head_text, level_text, row_text};
+ghost use Rattle.sbat.specs.Writing.{head_text, row_text};
 
 use crate::generation::Generation;
-use crate::level::Level;
 use crate::name::ComponentName;
 use crate::stamp::Stamp;
 use base::{WriteFailed, put_each};
@@ -25,18 +24,6 @@ pub fn level_head<W: Write>(stamp: Stamp, writer: &mut W) -> Result<(), WriteFai
     put_each(&[b"sbat,1,", stamp, b"\n"], writer)
 }
 
-/// Writes the line of one name.
-fn put_row<W: Write>(name: &str, generation: Generation, writer: &mut W) -> Result<(), WriteFailed>
-    ensures ok { OnOk result (Appends (W.contents writer.old) (W.contents writer.new)
-        (row_text name.now generation)) }
-    ensures err { OnErr result (AppendsBeginning (W.contents writer.old) (W.contents writer.new)
-        (row_text name.now generation)) }
-{
-    let mut digits = Buffer::new();
-    let generation = digits.format(generation.value()).as_bytes();
-    put_each(&[name.as_bytes(), b",", generation, b"\n"], writer)
-}
-
 /// Writes the line of one name: the name, a comma, its generation without leading zeros, and LF. If
 /// the writer fails, it holds a prefix of the line, which may be empty.
 pub fn level_row<W: Write>(
@@ -49,21 +36,7 @@ pub fn level_row<W: Write>(
     ensures err { OnErr result (AppendsBeginning (W.contents writer.old) (W.contents writer.new)
         (row_text name.now generation)) }
 {
-    put_row(name.as_str(), generation, writer)
-}
-
-/// Writes the text of a level: `sbat,1,` and the stamp, then each name, a comma and its generation
-/// without leading zeros, ascending by the names' bytes. LF ends each line. If the writer fails, it
-/// holds a prefix of the text, which may be empty.
-pub fn write_level<W: Write>(level: &Level, writer: &mut W) -> Result<(), WriteFailed>
-    ensures ok { OnOk result (Appends (W.contents writer.old) (W.contents writer.new)
-        (level_text level.now)) }
-    ensures err { OnErr result (AppendsBeginning (W.contents writer.old) (W.contents writer.new)
-        (level_text level.now)) }
-{
-    level_head(level.stamp(), writer)?;
-    for (name, generation) in level.iter() {
-        put_row(name, generation, writer)?;
-    }
-    Ok(())
+    let mut digits = Buffer::new();
+    let generation = digits.format(generation.value()).as_bytes();
+    put_each(&[name.as_str().as_bytes(), b",", generation, b"\n"], writer)
 }

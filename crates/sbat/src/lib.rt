@@ -26,7 +26,7 @@ pub use image::components;
 pub use laws::{greatest_counts, level_is_its_lines, level_reads_back};
 pub use level::{Level, LevelIter};
 pub use level_reading::read_level;
-pub use level_writing::{level_head, level_row, write_level};
+pub use level_writing::{level_head, level_row};
 pub use name::{ComponentName, NameFault};
 pub use stamp::Stamp;
 pub use text::rows;
