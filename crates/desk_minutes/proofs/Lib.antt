@@ -1,6 +1,9 @@
 pub mod AlikeLemmas
+pub mod EntryGrowthLemmas
 pub mod ExportLemmas
 pub mod FollowLemmas
+pub mod GrowthLemmas
+pub mod LevelGrowthLemmas
 pub mod LineLemmas
 pub mod MinutedLemmas
 pub mod PrintableLemmas

@@ -1,4 +1,6 @@
 pub mod Fields
 pub mod Follows
+pub mod Growth
 pub mod Lines
 pub mod Minuted
+pub mod Worked

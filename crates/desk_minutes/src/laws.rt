@@ -1,6 +1,8 @@
 //! Laws of minutes.
 ghost use Rattle.desk_minutes.specs.Follows as follows;
+ghost use Rattle.desk_minutes.specs.Growth as growth;
 ghost use Rattle.desk_minutes.specs.Lines.{LinesDiffer};
+ghost use Rattle.desk_minutes.specs.Worked as worked;
 
 /// A text that begins with the line of a call begins with no other call's line: the line tells its
 /// number, call and reply.
@@ -23,4 +25,20 @@ pub fn minutes_tell_history()
 /// were accepted by, have the same exports.
 pub fn minutes_tell_exports()
     ensures { follows.MinutesTellExports }
+{}
+
+/// The exports grow as a history goes on, and as minutes go on, whichever rules their calls were
+/// accepted by. What the later publishes has each entry of the earlier's dbx and of its form for
+/// shim, where a certificate's body comes in the place of its digest once a call gave it; each name
+/// of its level with no lower generation; and no lower stamp.
+pub fn exports_grow()
+    ensures history { growth.HistoriesGrow }
+    ensures minutes { growth.MinutesGrow }
+{}
+
+/// Of worked histories, exports don't grow where a generation, a stamp or an entry falls; and the
+/// body of a certificate replaces its digest in shim's form alone.
+pub fn growth_is_written()
+    ensures falls { worked.FallsAreNoGrowth }
+    ensures bodies { worked.BodiesReplaceDigests }
 {}

@@ -1,0 +1,8 @@
+use Rattle.desk_minutes.proofs.GrowthLemmas.{histories_grow, minutes_grow}
+use Rattle.desk_minutes.proofs.laws.exports_grow.Goals as goal
+
+pub returns-clause-history : goal.returns-clause-history
+returns-clause-history c = histories_grow
+
+pub returns-clause-minutes : goal.returns-clause-minutes
+returns-clause-minutes c = minutes_grow
