@@ -203,7 +203,7 @@ module _ (owner : List ℕ) (cs : History) where
         by_digest = (same_text kind x509_sha256_kind same, same_entry entry (digest_entry owner no_time tbs) is);
         given = found.among (λ c. bytes_eq tbs c.tbs && bytes_eq text c.body) (joined (bytes_eq tbs found.one.tbs) (bytes_eq text text) found.of (bytes_eq-refl text));
         whole = has_body text (has_bodies cs text ∙ found.among (λ c. is_revoked kinds.Certificate cs c.tbs && bytes_eq text c.body)
-        (joined (is_revoked kinds.Certificate cs found.one.tbs) (bytes_eq text text) revoked_it (bytes_eq-refl text)));
+            (joined (is_revoked kinds.Certificate cs found.one.tbs) (bytes_eq text text) revoked_it (bytes_eq-refl text)));
       }
     where
       denied : (b : Bool) → not b ≡ false → b ≡ true
@@ -221,9 +221,9 @@ module _ (owner : List ℕ) (cs new : History) where
       let still = revoked_after kinds.Certificate cs new one.text before.0 in
       elim (is_bodiless (new ++ cs) one.text) as (λ b. is_bodiless (new ++ cs) one.text ≡ b → ◌⊎◌ (has_entry kind entry (shim_lists owner (new ++ cs)) ≡ true) (HasBody owner (new ++ cs) kind entry)) [
         | true ↦ λ e. inl (in_back kind entry (of_digests owner (new ++ cs) ++ of_bodies owner (new ++ cs)) (of_others owner (new ++ cs))
-          (row_has kind entry x509_sha256_kind x509_sha256_size (digest_entry owner no_time) (revoked_bodiless (new ++ cs)) row.same
-          (passes_among (λ t. is_same_entry entry (digest_entry owner no_time t)) (revoked_bodiless (new ++ cs)) one.text
-          (has_others (new ++ cs) one.text ∙ joined (is_revoked kinds.Certificate (new ++ cs) one.text) (is_bodiless (new ++ cs) one.text) still e) one.passes)))
+            (row_has kind entry x509_sha256_kind x509_sha256_size (digest_entry owner no_time) (revoked_bodiless (new ++ cs)) row.same
+            (passes_among (λ t. is_same_entry entry (digest_entry owner no_time t)) (revoked_bodiless (new ++ cs)) one.text
+            (has_others (new ++ cs) one.text ∙ joined (is_revoked kinds.Certificate (new ++ cs) one.text) (is_bodiless (new ++ cs) one.text) still e) one.passes)))
         | false ↦ λ e. inr (body_of owner (new ++ cs) kind entry one.text row.same one.passes still e)
       ] refl
 
@@ -239,6 +239,6 @@ module _ (owner : List ℕ) (cs new : History) where
       sym (has-append kind entry (of_digests owner cs ++ of_bodies owner cs) (of_others owner cs)) ∙ h in
       elim (or_cases (has_entry kind entry (of_digests owner cs ++ of_bodies owner cs)) (has_entry kind entry (of_others owner cs)) parts) [
         | inl e ↦ inl (in_front kind entry (of_digests owner (new ++ cs) ++ of_bodies owner (new ++ cs)) (of_others owner (new ++ cs))
-          (both_grow kind entry (of_digests owner cs) (of_bodies owner cs) (of_digests owner (new ++ cs)) (of_bodies owner (new ++ cs)) (digests_grow owner cs new kind entry) (bodies_grow kind entry) e))
+            (both_grow kind entry (of_digests owner cs) (of_bodies owner cs) (of_digests owner (new ++ cs)) (of_bodies owner (new ++ cs)) (digests_grow owner cs new kind entry) (bodies_grow kind entry) e))
         | inr e ↦ others_grow kind entry e
       ]

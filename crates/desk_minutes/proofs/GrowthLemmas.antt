@@ -6,6 +6,7 @@ use Rattle.std.proofs.lemmas.List.{reverse-append, reverse-reverse}
 use Rattle.sbat.specs.declared.component.Component.{Component}
 use Rattle.siglist.specs.SignatureLists.{SignatureList}
 use Rattle.siglist.specs.Writing.{sha256_row, x509_row, x509_sha256_row}
+use Rattle.siglist.proofs.RowLemmas.{row_is_one}
 use Rattle.desk_types.specs.Certificates.{WholeCertificate}
 use Rattle.desk_types.specs.Naming.{certificate_listed}
 use Rattle.desk_types.specs.declared.kind.ListedKind.TheVariants as kinds
@@ -19,9 +20,10 @@ use Rattle.desk_history.specs.Tables.{level_rows}
 use Rattle.desk_history.specs.declared.rows.Minute.{Minute}
 use Rattle.desk_history.proofs.FormedLemmas.{history_rest}
 use Rattle.desk_exports.specs.Bodies.{certificates_given}
-use Rattle.desk_exports.specs.Exports.{dbx_lists, level_components, shim_lists}
+use Rattle.desk_exports.specs.Exports.{dbx, dbx_lists, level_components, minutes_text, shim_lists}
 use Rattle.desk_exports.specs.Orders.{ascending, ascending_by}
-use Rattle.desk_minutes.specs.Growth.{ExportsGrow, HaveAll, HistoriesGrow, MinutesGrow, RequireAll, has_entry}
+use Rattle.desk_exports.proofs.SpellingLemmas.{dbx_spells}
+use Rattle.desk_minutes.specs.Growth.{DbxReadGrows, ExportsGrow, HaveAll, HistoriesGrow, MinutesGrow, RequireAll, has_entry}
 use Rattle.desk_minutes.specs.Minuted.{as_minuted}
 use Rattle.desk_minutes.proofs.EntryGrowthLemmas.{dbx_grows, shim_grows}
 use Rattle.desk_minutes.proofs.LevelGrowthLemmas.{level_grows, stamp_grows}
@@ -32,7 +34,7 @@ use Rattle.desk_minutes.proofs.TextLemmas.{All-reverse, IsOfCall, begins, of_cal
 -- ---- histories
 
 pub histories_grow : HistoriesGrow
-histories_grow owner earlier later legal more = subst (ExportsGrow owner earlier) (sym more.1) (grown more.0 (subst (λ l. IsTrue (is_legal l)) more.1 legal))
+histories_grow earlier later legal more owner = subst (ExportsGrow owner earlier) (sym more.1) (grown more.0 (subst (λ l. IsTrue (is_legal l)) more.1 legal))
   where
     grown : (new : List Item) → IsTrue (is_legal (new ++ earlier)) → ExportsGrow owner earlier (new ++ earlier)
     grown new h = record {
@@ -110,10 +112,18 @@ goes_on (m ∷ others) cs (i ∷ ds) h same =
     record { rest = before.rest; new = i ∷ before.new; is = whole; history = before.history; same = before.same }
 
 pub minutes_grow : MinutesGrow
-minutes_grow owner more earlier later h k text =
-    let first = begins (reverse (minutes earlier)) (reverse (minutes later)) more (All-reverse IsOfCall (minutes earlier) (of_calls earlier h)) (All-reverse IsOfCall (minutes later) (of_calls later k)) text in
+minutes_grow bytes more earlier later f g owner =
+    let text : minutes_text later ≡ minutes_text earlier ++ more = g.minutes ∙ ap (λ b. b ++ more) (sym f.minutes) in
+    let first = begins (reverse (minutes earlier)) (reverse (minutes later)) more (All-reverse IsOfCall (minutes earlier) (of_calls earlier f.history)) (All-reverse IsOfCall (minutes later) (of_calls later g.history)) text in
     let whole : minutes later ≡ reverse first.others ++ minutes earlier =
     sym (reverse-reverse (minutes later)) ∙ ap reverse first.is ∙ reverse-append (reverse (minutes earlier)) first.others ∙ ap (λ l. reverse first.others ++ l) (reverse-reverse (minutes earlier)) in
-    let from = goes_on (reverse first.others) earlier later k whole in
-    grows_from owner from.rest earlier (same_of_minutes from.rest earlier from.history h from.same) later
-    (histories_grow owner from.rest later k.legal (from.new, from.is))
+    let from = goes_on (reverse first.others) earlier later g.history whole in
+    grows_from owner from.rest earlier (same_of_minutes from.rest earlier from.history f.history from.same) later
+    (histories_grow from.rest later g.history.legal (from.new, from.is) owner)
+
+pub dbx_read_grows : DbxReadGrows
+dbx_read_grows bytes more earlier later f g owner size firsts others first_spelt other_spelt =
+    let grown : HaveAll (dbx_lists owner earlier) (dbx_lists owner later) = (minutes_grow bytes more earlier later f g owner).dbx in
+    let first : dbx_lists owner earlier ≡ firsts = row_is_one (dbx_lists owner earlier) firsts (dbx owner earlier) (dbx_spells owner earlier size f.history) first_spelt in
+    let other : dbx_lists owner later ≡ others = row_is_one (dbx_lists owner later) others (dbx owner later) (dbx_spells owner later size g.history) other_spelt in
+    subst (λ ls. HaveAll ls others) first (subst (λ ls. HaveAll (dbx_lists owner earlier) ls) other grown)

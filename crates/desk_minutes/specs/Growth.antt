@@ -1,16 +1,16 @@
 -- How what a desk publishes grows as its history goes on (UEFI 2.10, 32.4.1; shim's SBAT.md).
-use Rattle.std.specs.Prelude.{◌≡◌, ◌≤◌, ◌⊎◌, ℕ, Bool, ◌&&◌, IsTrue, List, ◌++◌, bytes_eq, nat_le}
+use Rattle.std.specs.Prelude.{◌≡◌, ◌≤◌, ◌⊎◌, ℕ, Bool, ◌&&◌, IsTrue, List, ◌++◌, bytes_eq, length, nat_le}
 use Rattle.std.specs.List.{list_any}
 use Rattle.sbat.specs.declared.component.Component.{Component}
 use Rattle.siglist.specs.Kinds.{x509_kind, x509_sha256_kind}
-use Rattle.siglist.specs.SignatureLists.{Entry, SignatureList}
+use Rattle.siglist.specs.SignatureLists.{Entry, SignatureList, Spells}
 use Rattle.siglist.specs.Writing.{digest_entry, entry_of, no_time}
 use Rattle.desk_history.specs.Calls.{GoesOnFrom, History}
-use Rattle.desk_history.specs.Formed.{IsHistory}
 use Rattle.desk_history.specs.Level.{stamp}
 use Rattle.desk_history.specs.Runs.{is_legal}
 use Rattle.desk_exports.specs.Bodies.{certificates_given}
-use Rattle.desk_exports.specs.Exports.{dbx_lists, level_components, minutes_text, shim_lists}
+use Rattle.desk_exports.specs.Exports.{dbx, dbx_lists, level_components, shim_lists}
+use Rattle.desk_minutes.specs.Follows.{Follows}
 
 -- both entries have one SignatureOwner and one SignatureData
 abbrev pub is_same_entry : Entry → Entry → Bool
@@ -18,18 +18,22 @@ is_same_entry a b = bytes_eq a.owner b.owner && bytes_eq a.body b.body
 
 -- one of these lists is of this SignatureType and has the entry
 abbrev pub has_entry : List ℕ → Entry → List SignatureList → Bool
-has_entry kind entry lists = list_any (λ l. bytes_eq kind l.kind && list_any (is_same_entry entry) l.entries) lists
+has_entry kind entry lists =
+    list_any (λ l. bytes_eq kind l.kind && list_any (is_same_entry entry) l.entries) lists
 
 -- the second lists have each entry of the first
 abbrev pub HaveAll : List SignatureList → List SignatureList → Type 0
-HaveAll firsts others = (kind : List ℕ) (entry : Entry) → IsTrue (has_entry kind entry firsts) → IsTrue (has_entry kind entry others)
+HaveAll firsts others =
+    (kind : List ℕ) (entry : Entry) → IsTrue (has_entry kind entry firsts)
+    → IsTrue (has_entry kind entry others)
 
 -- a call gave this body for the certificate of this digest
 abbrev pub was_given : History → List ℕ → List ℕ → Bool
-was_given cs tbs body = list_any (λ c. bytes_eq tbs c.tbs && bytes_eq body c.body) (certificates_given cs)
+was_given cs tbs body =
+    list_any (λ c. bytes_eq tbs c.tbs && bytes_eq body c.body) (certificates_given cs)
 
--- The entry is that of a certificate by its digest, in an X509_SHA256 list, and shim's form for this
--- history has a body of the certificate, in an X509 list.
+-- The entry is that of a certificate by its digest, in an X509_SHA256 list, and shim's form for
+-- this history has a body of the certificate, in an X509 list.
 pub record HasBody (owner : List ℕ) (cs : History) (kind : List ℕ) (entry : Entry) : Type 0 where
   pub tbs : List ℕ
   pub body : List ℕ
@@ -46,12 +50,14 @@ ShimGrows owner earlier later =
 
 -- one of these components has the name, and no lower generation
 abbrev pub requires : List ℕ → ℕ → List Component → Bool
-requires name generation components = list_any (λ x. bytes_eq name x.name && nat_le generation x.generation) components
+requires name generation components =
+    list_any (λ x. bytes_eq name x.name && nat_le generation x.generation) components
 
 -- the second components have each name of the first, with no lower generation
 abbrev pub RequireAll : List Component → List Component → Type 0
 RequireAll firsts others =
-    (name : List ℕ) (generation : ℕ) → IsTrue (requires name generation firsts) → IsTrue (requires name generation others)
+    (name : List ℕ) (generation : ℕ) → IsTrue (requires name generation firsts)
+    → IsTrue (requires name generation others)
 
 -- What a desk with this owner publishes after the later history has all that it published after the
 -- earlier: the entries of dbx and of its form for shim, the names of the level with no lower
@@ -67,11 +73,20 @@ pub record ExportsGrow (owner : List ℕ) (earlier later : History) : Type 0 whe
 -- the exports grow where a history goes on, each of whose calls was accepted
 abbrev pub HistoriesGrow : Type 0
 HistoriesGrow =
-    (owner : List ℕ) (earlier later : History) → IsTrue (is_legal later) → GoesOnFrom earlier later
-    → ExportsGrow owner earlier later
+    (earlier later : History) → IsTrue (is_legal later) → GoesOnFrom earlier later
+    → (owner : List ℕ) → ExportsGrow owner earlier later
 
 -- and where minutes go on, whichever rules their calls were accepted by
 abbrev pub MinutesGrow : Type 0
 MinutesGrow =
-    (owner more : List ℕ) (earlier later : History) → IsHistory earlier → IsHistory later
-    → minutes_text later ≡ minutes_text earlier ++ more → ExportsGrow owner earlier later
+    (bytes more : List ℕ) (earlier later : History) → Follows bytes earlier
+    → Follows (bytes ++ more) later → (owner : List ℕ) → ExportsGrow owner earlier later
+
+-- for whoever reads the published bytes: whatever lists the bytes of dbx spell, after minutes and
+-- after minutes that go on, the later have each entry of the earlier
+abbrev pub DbxReadGrows : Type 0
+DbxReadGrows =
+    (bytes more : List ℕ) (earlier later : History) → Follows bytes earlier
+    → Follows (bytes ++ more) later → (owner : List ℕ) → length owner ≡ 16
+    → (firsts others : List SignatureList) → Spells firsts (dbx owner earlier)
+    → Spells others (dbx owner later) → HaveAll firsts others

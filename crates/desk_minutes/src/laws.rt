@@ -30,10 +30,12 @@ pub fn minutes_tell_exports()
 /// The exports grow as a history goes on, and as minutes go on, whichever rules their calls were
 /// accepted by. What the later publishes has each entry of the earlier's dbx and of its form for
 /// shim, where a certificate's body comes in the place of its digest once a call gave it; each name
-/// of its level with no lower generation; and no lower stamp.
+/// of its level with no lower generation; and no lower stamp. Whoever reads both dbx, as the bytes
+/// that they are, finds each entry of the earlier in the later.
 pub fn exports_grow()
     ensures history { growth.HistoriesGrow }
     ensures minutes { growth.MinutesGrow }
+    ensures read { growth.DbxReadGrows }
 {}
 
 /// Of worked histories, exports don't grow where a generation, a stamp or an entry falls; and the
