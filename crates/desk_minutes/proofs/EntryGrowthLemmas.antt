@@ -21,7 +21,7 @@ use Rattle.desk_exports.specs.Bodies.{certificates_given, is_bodiless}
 use Rattle.desk_exports.specs.Exports.{dbx_lists, revoked, revoked_bodies, revoked_bodiless, shim_lists}
 use Rattle.desk_exports.proofs.OrderLemmas.{all_revoked}
 use Rattle.desk_exports.proofs.ShimLemmas.{any_map, has_bodies, has_others}
-use Rattle.desk_minutes.specs.Growth.{HasBody, HaveAll, ShimGrows, has_entry, is_same_entry, was_given}
+use Rattle.desk_minutes.specs.Growth.{HasBody, HaveAll, ShimGrows, has_entry, is_same_entry}
 
 -- ---- texts among others
 
