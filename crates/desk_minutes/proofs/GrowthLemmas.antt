@@ -25,6 +25,7 @@ use Rattle.desk_exports.specs.Orders.{ascending, ascending_by}
 use Rattle.desk_exports.proofs.SpellingLemmas.{dbx_spells}
 use Rattle.desk_minutes.specs.Growth.{DbxReadGrows, ExportsGrow, HaveAll, HistoriesGrow, MinutesGrow, RequireAll, has_entry}
 use Rattle.desk_minutes.specs.Minuted.{as_minuted}
+use Rattle.desk_minutes.proofs.BeginningLemmas.{goes_on}
 use Rattle.desk_minutes.proofs.EntryGrowthLemmas.{dbx_grows, shim_grows}
 use Rattle.desk_minutes.proofs.LevelGrowthLemmas.{level_grows, stamp_grows}
 use Rattle.desk_minutes.proofs.MinutedLemmas.{as_same, once}
@@ -94,30 +95,13 @@ module _ (owner : List ℕ) (a b : History) (same : AreSame a b) where
 
 -- ---- minutes
 
--- The history goes on from one that has these minutes.
-record GoesOnFromMinutes (cs ds : History) : Type 0 where
-  rest : History
-  new : List Item
-  is : ds ≡ new ++ rest
-  history : IsHistory rest
-  same : minutes rest ≡ minutes cs
-
-goes_on : (others : List Minute) (cs ds : History) → IsHistory ds → minutes ds ≡ others ++ minutes cs → GoesOnFromMinutes cs ds
-goes_on [] cs ds h same = record { rest = ds; new = []; is = refl; history = h; same = same }
-goes_on (m ∷ others) cs [] h same = absurd (cc)
-goes_on (m ∷ others) cs (i ∷ ds) h same =
-    let tails : minutes ds ≡ others ++ minutes cs = cc in
-    let before = goes_on others cs ds (history_rest ds i h) tails in
-    let whole : i ∷ ds ≡ (i ∷ before.new) ++ before.rest = ap (λ l. i ∷ l) {y = before.new ++ before.rest} before.is in
-    record { rest = before.rest; new = i ∷ before.new; is = whole; history = before.history; same = before.same }
-
 pub minutes_grow : MinutesGrow
 minutes_grow bytes more earlier later f g owner =
     let text : minutes_text later ≡ minutes_text earlier ++ more = g.minutes ∙ ap (λ b. b ++ more) (sym f.minutes) in
     let first = begins (reverse (minutes earlier)) (reverse (minutes later)) more (All-reverse IsOfCall (minutes earlier) (of_calls earlier f.history)) (All-reverse IsOfCall (minutes later) (of_calls later g.history)) text in
     let whole : minutes later ≡ reverse first.others ++ minutes earlier =
     sym (reverse-reverse (minutes later)) ∙ ap reverse first.is ∙ reverse-append (reverse (minutes earlier)) first.others ∙ ap (λ l. reverse first.others ++ l) (reverse-reverse (minutes earlier)) in
-    let from = goes_on (reverse first.others) earlier later g.history whole in
+    let from = goes_on (reverse first.others) (minutes earlier) later g.history whole in
     grows_from owner from.rest earlier (same_of_minutes from.rest earlier from.history f.history from.same) later
     (histories_grow from.rest later g.history.legal (from.new, from.is) owner)
 

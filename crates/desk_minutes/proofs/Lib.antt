@@ -1,4 +1,5 @@
 pub mod AlikeLemmas
+pub mod BeginningLemmas
 pub mod EntryGrowthLemmas
 pub mod ExportLemmas
 pub mod FollowLemmas

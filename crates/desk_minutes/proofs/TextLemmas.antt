@@ -163,10 +163,10 @@ module _ (line body more rest : List ℕ) (e : Ends line) (free : is_without 10 
 -- ---- the line of a minute
 
 -- the line of a minute, and its line break
-abbrev body_of : Minute → List ℕ
+abbrev pub body_of : Minute → List ℕ
 body_of m = decimal m.number ++ codes "\t" ++ caller_name m.caller ++ codes "\t" ++ m.key ++ codes "\t" ++ m.text ++ codes "\t" ++ reply_text_of m.reply
 
-body_free : (m : Minute) → IsOfCall m → is_without 10 (body_of m) ≡ true
+pub body_free : (m : Minute) → IsOfCall m → is_without 10 (body_of m) ≡ true
 body_free m h = subst (λ l. is_without 10 (body_of l) ≡ true) (sym h.is) (told_body m.number h.call m.reply h.small h.told)
 
 -- the line that this minute's line begins with is its line

@@ -1,5 +1,5 @@
 -- How what a desk publishes grows as its history goes on (UEFI 2.10, 32.4.1; shim's SBAT.md).
-use Rattle.std.specs.Prelude.{◌≡◌, ◌≤◌, ◌⊎◌, ℕ, Bool, ◌&&◌, IsTrue, List, ◌++◌, bytes_eq, length, nat_le}
+use Rattle.std.specs.Prelude.{◌≡◌, ◌≤◌, ◌⊎◌, ℕ, Bool, ◌&&◌, IsTrue, List, [], ◌++◌, bytes_eq, length, nat_le}
 use Rattle.std.specs.List.{list_any}
 use Rattle.sbat.specs.declared.component.Component.{Component}
 use Rattle.siglist.specs.Kinds.{x509_kind, x509_sha256_kind}
@@ -10,7 +10,7 @@ use Rattle.desk_history.specs.Level.{stamp}
 use Rattle.desk_history.specs.Runs.{is_legal}
 use Rattle.desk_exports.specs.Bodies.{certificates_given}
 use Rattle.desk_exports.specs.Exports.{dbx, dbx_lists, level_components, shim_lists}
-use Rattle.desk_minutes.specs.Follows.{Follows}
+use Rattle.desk_minutes.specs.Follows.{EndsLine, Follows}
 
 -- both entries have one SignatureOwner and one SignatureData
 abbrev pub is_same_entry : Entry → Entry → Bool
@@ -68,7 +68,17 @@ pub record ExportsGrow (owner : List ℕ) (earlier later : History) : Type 0 whe
   pub level : RequireAll (level_components earlier) (level_components later)
   pub stamp : stamp earlier ≤ stamp later
 
+-- the bytes are whole lines, or there are none
+abbrev pub AreLines : List ℕ → Type 0
+AreLines bytes = (bytes ≡ []) ⊎ EndsLine bytes
+
 -- ---- laws
+
+-- whole lines that minutes begin with are those of an earlier history, from which theirs goes on
+abbrev pub BeginningsFollow : Type 0
+BeginningsFollow =
+    (bytes more : List ℕ) (later : History) → AreLines bytes → Follows (bytes ++ more) later
+    → (earlier : History) × GoesOnFrom earlier later × Follows bytes earlier
 
 -- the exports grow where a history goes on, each of whose calls was accepted
 abbrev pub HistoriesGrow : Type 0

@@ -27,6 +27,12 @@ pub fn minutes_tell_exports()
     ensures { follows.MinutesTellExports }
 {}
 
+/// Whole lines that a desk's minutes begin with are the minutes of an earlier history, from which
+/// the desk's goes on.
+pub fn beginnings_follow()
+    ensures { growth.BeginningsFollow }
+{}
+
 /// The exports grow as a history goes on, and as minutes go on, whichever rules their calls were
 /// accepted by. What the later publishes has each entry of the earlier's dbx and of its form for
 /// shim, where a certificate's body comes in the place of its digest once a call gave it; each name

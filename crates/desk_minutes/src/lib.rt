@@ -7,7 +7,8 @@ mod reading;
 mod replies;
 
 pub use laws::{
-    exports_grow, growth_is_written, lines_differ, minutes_tell_exports, minutes_tell_history,
+    beginnings_follow, exports_grow, growth_is_written, lines_differ, minutes_tell_exports,
+    minutes_tell_history,
 };
 pub use reading::{MinuteRead, read_minute};
 pub use replies::is_same_reply;
