@@ -1,5 +1,5 @@
 -- Exports of histories and of minutes that go on.
-use Rattle.std.proofs.Common.{◌≡◌, ◌≤◌, ℕ, not, List, [], ◌∷◌, ◌++◌, bytes_eq, filter, map, reverse, refl, sym, ap, ap₂, subst, ◌∙◌}
+use Rattle.std.proofs.Common.{◌≡◌, ◌≤◌, ℕ, not, List, ◌++◌, bytes_eq, filter, map, reverse, sym, ap, ap₂, subst, ◌∙◌}
 use Rattle.std.specs.Prelude.{IsTrue}
 use Rattle.std.specs.List.{flat_map, list_any}
 use Rattle.std.proofs.lemmas.List.{reverse-append, reverse-reverse}
@@ -17,8 +17,6 @@ use Rattle.desk_history.specs.Replies.{minutes}
 use Rattle.desk_history.specs.Revocations.{revocations}
 use Rattle.desk_history.specs.Runs.{is_legal}
 use Rattle.desk_history.specs.Tables.{level_rows}
-use Rattle.desk_history.specs.declared.rows.Minute.{Minute}
-use Rattle.desk_history.proofs.FormedLemmas.{history_rest}
 use Rattle.desk_exports.specs.Bodies.{certificates_given}
 use Rattle.desk_exports.specs.Exports.{dbx, dbx_lists, level_components, minutes_text, shim_lists}
 use Rattle.desk_exports.specs.Orders.{ascending, ascending_by}
