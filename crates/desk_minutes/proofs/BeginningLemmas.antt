@@ -1,19 +1,20 @@
 -- Whole lines that minutes begin with.
-use Rattle.std.proofs.Common.{◌≡◌, inl, inr, ℕ, ◌+◌, eqb, true, false, not, All, List, [], ◌∷◌, ◌++◌, length, reverse, refl, sym, ap, ◌∙◌, append_assoc, length-append, arith}
+use Rattle.std.proofs.Common.{◌≡◌, inl, inr, ℕ, ◌+◌, eqb, true, false, not, All, List, [], ◌∷◌, ◌++◌, length, reverse, take, drop, refl, sym, ap, subst, ◌∙◌, append_assoc, length-append, arith}
 use Rattle.std.specs.List.{flat_map}
 use Rattle.std.proofs.lemmas.Bool.Decides.{nat_tests}
-use Rattle.std.proofs.lemmas.List.{reverse-append, reverse-reverse}
+use Rattle.std.proofs.lemmas.List.{reverse-append, reverse-reverse, take-append-drop}
 use Rattle.std.proofs.lemmas.List.Elements.{All-head, All-tail}
 use Rattle.desk_types.proofs.FormLemmas.{joined}
 use Rattle.desk_types.proofs.SpaceLemmas.{cut_once}
-use Rattle.desk_history.specs.Calls.{History, Item}
+use Rattle.desk_history.specs.Calls.{GoesOnFrom, History, Item}
 use Rattle.desk_history.specs.Formed.{IsHistory}
 use Rattle.desk_history.specs.Replies.{minutes}
 use Rattle.desk_history.specs.declared.rows.Minute.{Minute}
 use Rattle.desk_history.proofs.FormedLemmas.{history_rest}
 use Rattle.desk_exports.specs.Exports.{minute_line, minutes_text}
 use Rattle.desk_minutes.specs.Fields.{is_without}
-use Rattle.desk_minutes.specs.Growth.{AreLines, BeginningsFollow}
+use Rattle.desk_minutes.specs.Follows.{Follows}
+use Rattle.desk_minutes.specs.Growth.{AreLines, BeginningsFollow, FirstLinesFollow}
 use Rattle.desk_minutes.proofs.TextLemmas.{All-reverse, IsOfCall, body_free, body_of, of_calls}
 
 -- ---- histories whose minutes are the first ones
@@ -92,12 +93,23 @@ first_minutes (m ∷ ms) bytes more h (inr ends) same =
       spelt = ap (λ l. minute_line m ++ l) rest.spelt ∙ append_assoc (body_of m) (10 ∷ []) one.rest ∙ ap (λ b. b ++ (10 ∷ one.rest)) cut.0 ∙ sym parts;
     }
 
+-- ---- their history
+
+parted : (firsts others : List Minute) (cs : History) → IsHistory cs → reverse (minutes cs) ≡ firsts ++ others
+    → (earlier : History) × GoesOnFrom earlier cs × Follows (flat_map minute_line firsts) earlier
+parted firsts others cs h same =
+    let whole : minutes cs ≡ reverse others ++ reverse firsts =
+    sym (reverse-reverse (minutes cs)) ∙ ap reverse same ∙ reverse-append firsts others in
+    let from = goes_on (reverse others) (reverse firsts) cs h whole in
+    let text : minutes_text from.rest ≡ flat_map minute_line firsts =
+    ap (λ ms. flat_map minute_line (reverse ms)) from.same ∙ ap (flat_map minute_line) (reverse-reverse firsts) in
+    (from.rest, (from.new, from.is), record { history = from.history; minutes = text })
+
 pub beginnings_follow : BeginningsFollow
 beginnings_follow bytes more later lines g =
     let first = first_minutes (reverse (minutes later)) bytes more (All-reverse IsOfCall (minutes later) (of_calls later g.history)) lines g.minutes in
-    let whole : minutes later ≡ reverse first.others ++ reverse first.firsts =
-    sym (reverse-reverse (minutes later)) ∙ ap reverse first.is ∙ reverse-append first.firsts first.others in
-    let from = goes_on (reverse first.others) (reverse first.firsts) later g.history whole in
-    let text : minutes_text from.rest ≡ bytes =
-    ap (λ ms. flat_map minute_line (reverse ms)) from.same ∙ ap (flat_map minute_line) (reverse-reverse first.firsts) ∙ first.spelt in
-    (from.rest, (from.new, from.is), record { history = from.history; minutes = text })
+    subst (λ b. (earlier : History) × GoesOnFrom earlier later × Follows b earlier) first.spelt (parted first.firsts first.others later g.history first.is)
+
+pub first_lines_follow : FirstLinesFollow
+first_lines_follow lines later h =
+    parted (take lines (reverse (minutes later))) (drop lines (reverse (minutes later))) later h (sym (take-append-drop lines (reverse (minutes later))))

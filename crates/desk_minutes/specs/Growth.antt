@@ -6,10 +6,12 @@ use Rattle.siglist.specs.Kinds.{x509_kind, x509_sha256_kind}
 use Rattle.siglist.specs.SignatureLists.{Entry, SignatureList, Spells}
 use Rattle.siglist.specs.Writing.{digest_entry, entry_of, no_time}
 use Rattle.desk_history.specs.Calls.{GoesOnFrom, History}
+use Rattle.desk_history.specs.Formed.{IsHistory}
 use Rattle.desk_history.specs.Level.{stamp}
 use Rattle.desk_history.specs.Runs.{is_legal}
 use Rattle.desk_exports.specs.Bodies.{certificates_given}
 use Rattle.desk_exports.specs.Exports.{dbx, dbx_lists, level_components, shim_lists}
+use Rattle.desk_exports.specs.MinutesShown.{first_lines}
 use Rattle.desk_minutes.specs.Follows.{EndsLine, Follows}
 
 -- both entries have one SignatureOwner and one SignatureData
@@ -79,6 +81,12 @@ abbrev pub BeginningsFollow : Type 0
 BeginningsFollow =
     (bytes more : List ℕ) (later : History) → AreLines bytes → Follows (bytes ++ more) later
     → (earlier : History) × GoesOnFrom earlier later × Follows bytes earlier
+
+-- so are the first lines, however many
+abbrev pub FirstLinesFollow : Type 0
+FirstLinesFollow =
+    (lines : ℕ) (later : History) → IsHistory later
+    → (earlier : History) × GoesOnFrom earlier later × Follows (first_lines later lines) earlier
 
 -- the exports grow where a history goes on, each of whose calls was accepted
 abbrev pub HistoriesGrow : Type 0

@@ -27,10 +27,11 @@ pub fn minutes_tell_exports()
     ensures { follows.MinutesTellExports }
 {}
 
-/// Whole lines that a desk's minutes begin with are the minutes of an earlier history, from which
-/// the desk's goes on.
+/// Whole lines that a desk's minutes begin with, and so their first lines, however many, are the
+/// minutes of an earlier history, from which the desk's goes on.
 pub fn beginnings_follow()
-    ensures { growth.BeginningsFollow }
+    ensures whole { growth.BeginningsFollow }
+    ensures first { growth.FirstLinesFollow }
 {}
 
 /// The exports grow as a history goes on, and as minutes go on, whichever rules their calls were

@@ -1,5 +1,8 @@
 use Rattle.desk_minutes.proofs.BeginningLemmas as lemmas
 use Rattle.desk_minutes.proofs.laws.beginnings_follow.Goals as goal
 
-pub returns : goal.returns
-returns c = lemmas.beginnings_follow
+pub returns-clause-whole : goal.returns-clause-whole
+returns-clause-whole c = lemmas.beginnings_follow
+
+pub returns-clause-first : goal.returns-clause-first
+returns-clause-first c = lemmas.first_lines_follow
