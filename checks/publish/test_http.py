@@ -115,7 +115,7 @@ def slowly(_: str) -> Iterator[bytes]:
 
 
 def test_an_answer_that_does_not_end_is_a_fault(signed: Place, quick: Path) -> None:
-    of, says = private_token(signed, "olga"), "an answer wasn't whole after 2 seconds"
+    of, says = private_token(signed, "olga"), "the answer was lost: it wasn't whole after 3 seconds"
     with served(slowly, whole=False) as (url, _):
         signed.publish(3, says, by=quick, of=by(url, of))
         witness = ("--key", "publisher", "--witness", f"{url}/checkpoint.txt")

@@ -18,7 +18,7 @@ def fetched(url: str, ca: Optional[str], program: str, seconds: float, most: int
     except OSError as error:
         broken(f"the certificates {ca}: {reason(error)}")
     site = Site(at, context, "", program)
-    site.until, site.most_seconds, site.most_bytes = time.monotonic() + seconds, seconds, most
+    site.until, site.most_bytes = time.monotonic() + seconds, most
     site.heard = heard
     answer = site.once(Call("GET", ""))
     if answer.status != 200:
