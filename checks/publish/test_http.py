@@ -18,7 +18,6 @@ from checks.support.steps import confirms, named
 # Five minutes are two seconds here, and a GiB is a MiB.
 QUICK = (
     ("reader.py", "^(ANSWER_SECONDS, ANSWER_BYTES =) 300, 1 << 30$", r"\1 2, 1 << 20"),
-    ("publish/witness.py", "^(WITNESS_SECONDS, .*) = 30, ", r"\1 = 2, "),
 )
 
 
@@ -115,11 +114,9 @@ def slowly(_: str) -> Iterator[bytes]:
 
 
 def test_an_answer_that_does_not_end_is_a_fault(signed: Place, quick: Path) -> None:
-    of, says = private_token(signed, "olga"), "the answer was lost: it wasn't whole after 3 seconds"
+    of = private_token(signed, "olga")
     with served(slowly, whole=False) as (url, _):
-        signed.publish(3, says, by=quick, of=by(url, of))
-        witness = ("--key", "publisher", "--witness", f"{url}/checkpoint.txt")
-        signed.publish(0, f"stops nothing: {says}", *witness, by=quick)
+        signed.publish(3, "it wasn't whole after 3 seconds", by=quick, of=by(url, of))
 
 
 def test_an_answer_that_is_too_long_is_a_fault(signed: Place, quick: Path) -> None:

@@ -2,8 +2,9 @@
 from __future__ import annotations
 
 import ssl
+import threading
 import time
-from typing import Callable, Optional
+from typing import Callable, Optional, Sequence
 
 from .faults import NoAnswer, broken, reason
 from .http import Answer, Call, Site, address
@@ -24,3 +25,13 @@ def fetched(url: str, ca: Optional[str], program: str, seconds: float, most: int
     if answer.status != 200:
         raise NoAnswer(f"status {answer.status}", True)
     return answer
+
+
+def side_by_side(works: Sequence[Callable[[], None]], seconds: float) -> None:
+    """Does all of these at once, for so long at most: what isn't done by then is nobody's."""
+    threads = [threading.Thread(target=work, daemon=True) for work in works]
+    for one in threads:
+        one.start()
+    until = time.monotonic() + seconds
+    for one in threads:
+        one.join(max(until - time.monotonic(), 0))
