@@ -145,7 +145,8 @@ class Answer:
         return self.status in UNTAKEN or (self.status >= 500 and self.status != 501)
 
     def trouble(self) -> str:
-        words = {408: "the request took too long", 429: "too many requests",
+        words = {400: "the proxy takes no such certificate, or its list of revoked ones is too old",
+                 408: "the request took too long", 429: "too many requests",
                  500: "the proxy failed", 502: "the proxy doesn't reach the desk",
                  504: "the desk takes too long"}
         refused = self.refusal()

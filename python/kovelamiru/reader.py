@@ -92,7 +92,7 @@ class Reader(Site):
             else:
                 if answer.status in (200, *others):
                     return answer
-                said = f"{answer.status} {answer.data()[:200].decode(errors='replace')}"
+                said = answer.trouble()
                 if answer.status not in (429, 502, 503, 504):
                     break
             if time.monotonic() + pause >= self.until:
