@@ -90,14 +90,16 @@ def test_why_names_the_earliest_call(seed: int) -> None:
     """Whatever order a set has."""
     code = """if True:
         from kovelamiru.why import Names, Story
-        names = {kind: {f"{kind} {one}" for one in range(9)} for kind in ("digests", "certificates")}
+        kinds = ("digests", "certificates")
+        names = {kind: {f"{kind} {one}" for one in range(9)} for kind in kinds}
         for how, says in (("revoked", "Barred: its digest is revoked (call 40)"),
                           ("listed", "Allowed: its digest is listed (call 40), and")):
             story = Story(Names(image=[], **names))
             story.by = {(name, how): 40 + at for at, name in enumerate(sorted(names["digests"]))}
             assert story.answer().startswith(says), story.answer()
     """
-    ran("env", f"PYTHONHASHSEED={seed}", f"PYTHONPATH={ROOT / 'python'}", sys.executable, "-Bc", code)
+    given = f"PYTHONHASHSEED={seed}", f"PYTHONPATH={ROOT / 'python'}"
+    ran("env", *given, sys.executable, "-Bc", code)
 
 
 TEXT = b"sbat,1,SBAT Version,sbat,1,u\nshim,3,shim,shim,16,u\n"

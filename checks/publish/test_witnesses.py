@@ -135,8 +135,9 @@ def test_a_publication_waits_for_no_witness(signed: Place, one: Witness) -> None
 
 def test_a_witness_that_never_answers_holds_nothing_up(signed: Place, one: Witness) -> None:
     """Nor a mirror: each is asked at once, and all for so long."""
-    quick = signed.changed("quick", ("checkpoints.py", "^SECONDS, (.*) = 30, ", r"SECONDS, \1 = 2, "),
-                           ("publish/witness.py", "^(WITNESS_SECONDS, .*) = 30, ", r"\1 = 2, "))
+    quick = signed.changed(
+        "quick", ("checkpoints.py", "^SECONDS, (.*) = 30, ", r"SECONDS, \1 = 2, "),
+        ("publish/witness.py", "^(WITNESS_SECONDS, .*) = 30, ", r"\1 = 2, "))
     signed.revokes(number(3))
     one.follows(shown(signed), 0, "calls 13\n")
     words = listed(signed, one)
@@ -287,7 +288,8 @@ def test_without_witnesses_nothing_is_gone_from_a_mirror(mirror: Mirror) -> None
     level = (place.link / "level.csv").read_bytes()
     for word, name, data, says in (
         ("dbx", "dbx_esl", b"", "refused dbx: 3 published entries are gone"),
-        ("level", "level_csv", level.replace(b"grub,3", b"grub,2"), "refused level: grub has 2, and 3"),
+        ("level", "level_csv", level.replace(b"grub,3", b"grub,2"),
+         "refused level: grub has 2, and 3"),
     ):
         due = f"{word} {hashlib.sha256(data).hexdigest()}".encode()
         texts = {one.replace(".", "_"): re.sub(rb"(?m)^%s .*" % word.encode(), due,

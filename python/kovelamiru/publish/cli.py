@@ -71,9 +71,9 @@ takes --witness, the checkpoint.txt of a mirror, with its checkpoint.txt.sig bes
 --key didn't sign, or that isn't there, stops nothing, and standard error says so.
 
 A changed --key publishes, as does a witness's new signature; other options alone don't: --sign
-takes effect with the next call. Once --public-minutes is left out, nobody else can read minutes.txt in any folder, though index.html
-still names it until the next publication; given again, the option holds from the next publication
-on.
+takes effect with the next call. Once --public-minutes is left out, nobody else can read minutes.txt
+in any folder, though index.html still names it until the next publication; given again, the option
+holds from the next publication on.
 
 The signing command is run as COMMAND NAME LIST OUT for `dbx` and for `db`, unless the list is
 empty: it writes OUT, an authenticated update of that variable, in a folder of its own, of which
@@ -88,7 +88,8 @@ WHERE is its checkpoint.txt, a URL or a file, and KEY its public SSH key. The si
 its own `desk follow` reached these very minutes, which go on from what it signed before, and that
 these lists follow from them: who has this machine and --key can't show another list without it. A
 publication waits for no witness: what one signs later, of this checkpoint or of a later one with
-the same lists, is added by the next run. Whoever wants so many asks for them (kovelamiru-mirror -k).
+the same lists, is added by the next run. Whoever wants so many signatures asks for them
+(kovelamiru-mirror -k).
 With a line `NAME KEY` for each in WITNESSES, whoever has a published folder checks
 
   ssh-keygen -Y verify -f WITNESSES -I NAME -n kovelamiru-witness \\

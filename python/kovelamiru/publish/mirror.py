@@ -44,8 +44,8 @@ Nothing changes, and the line on standard error begins with `kovelamiru-mirror: 
   date       its date is earlier than that of the copy here, or ahead of this clock by a day
   witnesses  fewer than -k of --witnesses signed its checkpoint, or a later one with its lists
   sums       a file isn't that of its sum
-  checkpoint audit.txt, a list, an update's list or minutes.txt isn't that of checkpoint.txt; while a
-             change of db waits for consent, db.esl is that of the copy here, or of audit-db.txt
+  checkpoint audit.txt, a list, an update's list or minutes.txt isn't that of checkpoint.txt; while
+             a change of db waits for consent, db.esl is that of the copy here, or of audit-db.txt
              without --witnesses
   dbx        it lacks an entry that the copy here has
   level      a generation or the stamp is below that of the copy here

@@ -1,4 +1,5 @@
-"""What witnesses signed for a publication: others whose own `desk follow` reached its checkpoint."""
+"""What witnesses signed for a publication: others whose own `desk follow` reached its
+checkpoint."""
 from __future__ import annotations
 
 import argparse
