@@ -181,7 +181,7 @@ def lists_in(data: bytes) -> Optional[Revocations]:
 
 def revocations_of(path: str, arch: Optional[str]) -> Revocations:
     """What a file names; its kind is found by its bytes."""
-    data = read_file(path, 256 << 20, "a file of revocations has here")
+    data = read_file(path, 32 << 20, "a file of revocations has here")
     try:
         level, notes = level_held(data)
         found = level_named(level, notes) if level else text_named(data, arch)
