@@ -128,7 +128,7 @@ def test_public_minutes_are_mirrored_where_they_are_asked_for(mirror: Mirror) ->
     assert (mirror.link / "minutes.txt").read_bytes() == minutes.read_bytes()
     (mirror.link / "minutes.txt").unlink()
     minutes.write_bytes(minutes.read_bytes() + b"x")
-    mirror.runs(1, "refused sums: ", "--minutes")
+    mirror.runs(1, "refused checkpoint: ", "--minutes")
 
 
 def test_an_older_publication_is_refused(mirror: Mirror) -> None:
