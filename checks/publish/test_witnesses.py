@@ -123,7 +123,8 @@ def test_a_publication_waits_for_no_witness(signed: Place, one: Witness) -> None
     expect(sorted(signed.named() & {*named(one, two)}), named(one), "what witnesses signed")
     signed.shows(13)
     later = shown(signed)
-    later.lines.append(b"14\tolga\tk-later\trevoke-digest %s\tproposed 4\n" % number(4).encode())
+    call = f"14\tolga\tk-later\trevoke-digest {number(4)}\tproposed {signed.proposals + 1}\n"
+    later.lines.append(call.encode())
     for who in (one, two):
         who.follows(later, 0, "calls 14\n")
     signed.publish(0, "calls 13: published", *words)
