@@ -143,8 +143,9 @@ def filled(words: argparse.Namespace, link: str, whole: str, now: int, found: Fo
     if words.key:
         files[f"{CHECKPOINT}.sig"] = signature(words.key, PUBLISHED, files[CHECKPOINT])
     if words.witnesses:
-        files.update(published_testimonies(link, files[CHECKPOINT]))
         files.update(testimonies(words, check))
+        # (a later word of a witness says less)
+        files.update(published_testimonies(link, files[CHECKPOINT]))
     files.update(pages(words, files, found, now, last))
     sums = f"# calls {found.calls}\n# date {day(now)}\n# folder {os.path.basename(whole)}\n"
     sums += "".join(f"{digest(data)}  {name}\n" for name, data in sorted(files.items()))
