@@ -2,6 +2,7 @@
 officers and for others."""
 from __future__ import annotations
 
+import sys
 from pathlib import Path
 from typing import Iterator
 
@@ -13,6 +14,7 @@ from checks.support.deskctl import Office, Person, with_room
 from checks.support.images import PLAIN, authenticode, digest, sha256, with_text
 from checks.support.messages import posted
 from checks.support.says import expect
+from checks.support.tools import ROOT, ran
 from kovelamiru.sentences import minute
 
 LINES = [b"%d\tolga\tk%d\tlist-digest %064x\tlisted\n" % (at, at, at) for at in range(1, 2501)]
@@ -81,6 +83,24 @@ def test_a_copy_is_what_the_desk_exports(office: Office) -> None:
 
 
 # ---- why
+
+
+@pytest.mark.parametrize("seed", range(4))
+def test_why_names_the_earliest_call(seed: int) -> None:
+    """Whatever order a set has."""
+    code = """if True:
+        from kovelamiru.why import Names, Story
+        kinds = ("digests", "certificates")
+        names = {kind: {f"{kind} {one}" for one in range(9)} for kind in kinds}
+        for how, says in (("revoked", "Barred: its digest is revoked (call 40)"),
+                          ("listed", "Allowed: its digest is listed (call 40), and")):
+            story = Story(Names(image=[], **names))
+            story.by = {(name, how): 40 + at for at, name in enumerate(sorted(names["digests"]))}
+            assert story.answer().startswith(says), story.answer()
+    """
+    given = f"PYTHONHASHSEED={seed}", f"PYTHONPATH={ROOT / 'python'}"
+    ran("env", *given, sys.executable, "-Bc", code)
+
 
 TEXT = b"sbat,1,SBAT Version,sbat,1,u\nshim,3,shim,shim,16,u\n"
 IMAGE = with_text(PLAIN, TEXT)

@@ -142,7 +142,7 @@ class Evening:
             "witnesses", f"old {self.old.url}/witness/checkpoint.txt {key}\n".encode())
         self.published = room / "witnessed"
         self.publishes(self.name.url, 0, "published", "--first", "--witnesses", witnesses)
-        assert (self.published / "checkpoint.txt.old.sig").exists()
+        assert (self.published / "witness-old.txt.sig").exists()
 
 
 @pytest.mark.long(40)

@@ -1,9 +1,11 @@
-"""A crowd that sends with one token, or from one address, holds nobody else up for long."""
+"""A crowd that sends with one token, or strangers at one's own address, hold nobody else up for
+long."""
 from __future__ import annotations
 
 import contextlib
 import http.client
 import socket
+import sys
 import threading
 import time
 from typing import Callable, Iterator
@@ -14,13 +16,16 @@ from checks.proxy.site import Proxied, Site, refusal
 from checks.support.messages import PEOPLE, request, token
 from checks.support.nginx import Nginx
 from checks.support.says import expect
+from checks.support.tools import ROOT, ran
 from checks.support.waits import until
 
 SLOW = 0.3
+KNOWN = [f"Desk-Token: {token(who)}\r\n".encode() for who in PEOPLE]
 
 
 class StandIn:
-    """A desk that takes one request after another, and works so long for each image."""
+    """A desk that takes one request after another, works so long for each image, and knows PEOPLE
+    alone."""
 
     def __init__(self) -> None:
         self.socket = socket.create_server(("127.0.0.1", 0), backlog=128)
@@ -42,7 +47,8 @@ class StandIn:
         if head.startswith((b"POST /verdict", b"POST /requests")):
             time.sleep(SLOW)
             self.images += 1
-        peer.sendall(b"HTTP/1.1 200 OK\r\nContent-Length: 2\r\nConnection: close\r\n\r\nok")
+        status = b"200 OK" if any(one in head for one in KNOWN) else b"401 Unauthorized"
+        peer.sendall(b"HTTP/1.1 %s\r\nContent-Length: 2\r\nConnection: close\r\n\r\nok" % status)
 
 
 def asked(port: int, method: str, path: str, who: str, address: str = "127.0.0.1") -> int:
@@ -88,12 +94,16 @@ def test_an_officer_waits_for_two_images_of_one_token(
 
 
 class Half:
-    """Somebody who has sent the half of a body, or whom nginx answered before that."""
+    """Somebody who has sent the half of a body, or whom nginx answered before that. A number in
+    place of a name is a stranger."""
 
-    def __init__(self, site: Nginx, who: str, path: str, address: str) -> None:
+    def __init__(
+        self, site: Nginx, who: str | int, path: str, address: str, size: int = 5000
+    ) -> None:
         self.socket = socket.create_connection(("127.0.0.1", site.port), 30, (address, 0))
-        fields = [("Host", "desk.example.org"), ("Desk-Token", token(who)), ("Desk-Key", "k")]
-        self.socket.sendall(request("POST", path, fields, b"x" * 100)[:-50])
+        text = token(who) if isinstance(who, str) else f"made-up-token-{who:06}"
+        fields = [("Host", "desk.example.org"), ("Desk-Token", text), ("Desk-Key", "k")]
+        self.socket.sendall(request("POST", path, fields, b"x" * size)[:-50])
 
     def status(self) -> int:
         """The status that came, or 0 if the rest of the body is waited for."""
@@ -105,14 +115,22 @@ class Half:
 
 
 @pytest.fixture
-def halves(nginx: Callable[..., Nginx]) -> Iterator[Callable[..., list[int]]]:
-    """What becomes of those of several tokens, at a path, from several addresses."""
-    site, begun = nginx(StandIn().port), []
+def site(nginx: Callable[..., Nginx]) -> Nginx:
+    """nginx before a stand-in."""
+    return nginx(StandIn().port)
 
-    def made(tokens: list[str], path: str, addresses: list[str]) -> list[int]:
+
+@pytest.fixture
+def halves(site: Nginx) -> Iterator[Callable[..., list[int]]]:
+    """What becomes of those of several tokens, at a path, from several addresses."""
+    begun = []
+
+    def made(
+        tokens: list[str | int], path: str, addresses: list[str], size: int = 5000
+    ) -> list[int]:
         found = []
         for who, address in zip(tokens, addresses):
-            begun.append(Half(site, who, path, address))
+            begun.append(Half(site, who, path, address, size))
             found.append(begun[-1].status())
         return found
 
@@ -121,10 +139,42 @@ def halves(nginx: Callable[..., Nginx]) -> Iterator[Callable[..., list[int]]]:
         one.socket.close()
 
 
-def test_an_address_has_three_bodies_under_way(halves: Callable[..., list[int]]) -> None:
-    one = ["127.0.0.5"]
-    expect(halves(list(PEOPLE)[:5], "/level", one * 5), [0, 0, 0, 429, 429], "of one address")
-    expect(halves(["otto"], "/level", ["127.0.0.6"]), [0], "another one")
+ONE = "127.0.0.5"
+
+
+def test_a_token_has_three_bodies_under_way(
+    site: Nginx, halves: Callable[..., list[int]]
+) -> None:
+    """And its small commands go on beside them, as do others at its address."""
+    expect(halves(["olga"] * 5, "/level", [ONE] * 5), [0, 0, 0, 429, 429], "of one token")
+    for who in ("olga", "otto"):
+        expect(asked(site.port, "POST", "/level", who, ONE), 200, f"a small command of {who}")
+    expect(halves(["otto"], "/level", [ONE]), [0], "another one")
+
+
+def test_strangers_at_an_officers_address_count_for_nobody(
+    site: Nginx, halves: Callable[..., list[int]]
+) -> None:
+    """They begin long bodies, and read the page's files slowly: nothing of a body is waited for."""
+    expect(halves([*range(8)], "/level", [ONE] * 8), [401] * 8, "strangers")
+    readers = [socket.create_connection(("127.0.0.1", site.port), 30, (ONE, 0)) for _ in range(20)]
+    for one in readers:
+        one.setsockopt(socket.SOL_SOCKET, socket.SO_RCVBUF, 1)
+        one.sendall(request("GET", "/page/style.css", [("Host", "desk.example.org")]) * 8)
+    for _ in range(6):
+        expect(asked(site.port, "POST", "/level", "otto", ONE), 200, "an officer's command")
+    for one in readers:
+        one.close()
+
+
+def test_a_strangers_connection_is_closed(site: Nginx) -> None:
+    """However slowly they go on with their body."""
+    stranger = Half(site, 1, "/level", ONE)
+    expect(stranger.status(), 401, "a stranger")
+    with pytest.raises(OSError), stranger.socket as peer:
+        for _ in range(20):
+            peer.sendall(b"x")
+            time.sleep(0.25)
 
 
 def addresses(count: int) -> list[str]:
@@ -138,7 +188,36 @@ def test_a_token_has_two_images_under_way(halves: Callable[..., list[int]], path
 
 
 def test_a_token_has_eight_requests_under_way(halves: Callable[..., list[int]]) -> None:
-    expect(halves(["olga"] * 10, "/level", addresses(10)), [0] * 8 + [429] * 2, "of one token")
+    found = halves(["olga"] * 10, "/level", addresses(10), 100)
+    expect(found, [0] * 8 + [429] * 2, "of one token")
+
+
+# ---- connections
+
+OPENS = """if True:
+    import socket
+    server, held = socket.create_server(("127.0.0.1", 443), backlog=1000), []
+
+    def opens(address):
+        held.append(socket.socket())
+        held[-1].settimeout(0.5)
+        held[-1].bind((address, 0))
+        try:
+            held[-1].connect(("127.0.0.1", 443))
+        except TimeoutError:
+            return False
+        return True
+
+    print([opens("127.0.0.5") for _ in range(258)].count(True), opens("127.0.0.6"))
+"""
+
+
+@pytest.mark.if_there("root", "network", "ip", "nft", "unshare")
+def test_an_address_has_so_many_connections() -> None:
+    """desk.nft keeps the others for others."""
+    rules = ROOT / "packaging" / "desk.nft"
+    text = f'ip link set lo up && nft -f {rules} && exec {sys.executable} -c "$0"'
+    expect(ran("unshare", "-n", "sh", "-c", text, OPENS), b"256 True\n", "of one, and another")
 
 
 # ---- texts that are made up

@@ -115,7 +115,7 @@ def test_a_desk_that_a_mirror_knows_is_published(past: Place) -> None:
     expect(re.findall("witness (.* ago)", said), [wanted], "a mirror that is behind")
 
 
-FALSE = b"owner %s\ncalls 9999999\nminutes %s\n" % (OWNER.encode(), bytes(64))
+FALSE = b"owner %s\ncalls 9999999\nminutes %s\n" % (OWNER.encode(), b"0" * 64)
 
 
 def test_what_our_key_did_not_sign_stops_nothing(past: Place) -> None:

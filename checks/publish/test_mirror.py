@@ -14,6 +14,8 @@ import pytest
 
 from checks.publish.mirror import files, served
 from checks.publish.place import SIGNERS, Place, key_of, number, spelled
+from checks.support.dripping import WAYS, dripping
+from checks.support.program import Program
 from checks.support.says import expect, fail, note
 from checks.support.steps import named
 from checks.support.tools import ROOT, ran
@@ -94,6 +96,17 @@ def test_what_is_published_is_mirrored_whole(mirror: Mirror) -> None:
     expect(mirror.asked, [f"/published/SHA256SUMS{one}" for one in ("", ".sig")], "what is fetched")
 
 
+@pytest.mark.timeout(60)
+@pytest.mark.parametrize("way", WAYS)
+def test_a_site_whose_answer_never_ends_is_a_fault(desk: Program, way: str) -> None:
+    """A minute is a second here."""
+    edit = ("publish/mirror.py", "^SUMS_SECONDS, SUMS_BYTES = 60,", "SUMS_SECONDS, SUMS_BYTES = 1,")
+    with dripping(way) as url:
+        mirror = Mirror(Place(desk), url, [])
+        mirror.runs(3, "the answer was lost: it wasn't whole after 3 seconds", "--first",
+                    by=mirror.place.changed("quick", edit, tool=MIRROR))
+
+
 def test_only_what_changed_is_fetched(mirror: Mirror) -> None:
     again(mirror.place, 5)
     mirror.runs(0, ": mirrored in published.2")
@@ -115,7 +128,7 @@ def test_public_minutes_are_mirrored_where_they_are_asked_for(mirror: Mirror) ->
     assert (mirror.link / "minutes.txt").read_bytes() == minutes.read_bytes()
     (mirror.link / "minutes.txt").unlink()
     minutes.write_bytes(minutes.read_bytes() + b"x")
-    mirror.runs(1, "refused sums: ", "--minutes")
+    mirror.runs(1, "refused checkpoint: ", "--minutes")
 
 
 def test_an_older_publication_is_refused(mirror: Mirror) -> None:

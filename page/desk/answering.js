@@ -8,10 +8,10 @@ export function answerOf({ names: { digests, certificates, image }, generations,
     if (!image) return '';
     const { answers } = wire.sentences;
     const sets = Object.entries({ digest: digests, certificate: certificates });
-    const found = (/** @type {'revoked' | 'listed'} */ how) => sets.flatMap(([kind, set]) => (
-        [...set].filter((one) => by.get(`${how} ${one}`))
-            .map((one) => ({ kind, CALL: by.get(`${how} ${one}`) }))
-    ))[0];
+    const found = (/** @type {'revoked' | 'listed'} */ how) => sets.flatMap(([kind, set]) => {
+        const calls = [...set].flatMap((one) => by.get(`${how} ${one}`) || []);
+        return calls.length > 0 ? { kind, CALL: Math.min(...calls) } : [];
+    })[0];
     const revoked = found('revoked');
     if (revoked) return filled(answers[revoked.kind], revoked);
     const low = image.find(([name, has]) => has < (generations.get(name) ?? 0));

@@ -8,10 +8,10 @@ import { filled } from './words.js';
 
 /** @typedef {{ stamp: number, names: Map<string, number> }} Level */
 
-/** How a level begins, wherever it stands, and the lines of one: its first line may be missing. */
+/** How a level begins, wherever it stands, and how a line of one does: its first may be missing. */
 const LEVEL = /^sbat,0*1,[0-9]{10}(?![0-9])/;
 const STAMPS = /^sbat,0*1,([0-9]{10})(?![0-9])/gm;
-const LEVEL_LINES = /^(?:[!-+\--~]{1,128},[0-9]{1,10}(?:,[^\n]*)?\r?(?:\n|$))+[\s\0]*$/;
+const ROW = /^[!-+\--~]{1,128},[0-9]{1,10}(?:,|\s*$)/;
 /** So many stamps are told. */
 const MANY = 20;
 /** The sections of an image of revocations: the level that shim applies by itself, the latest. */
@@ -25,9 +25,12 @@ export const textOf = (bytes) => new TextDecoder('latin1').decode(bytes);
 /** @param {string} text */
 export const isLevel = (text) => LEVEL.test(text);
 
-// Whether each line is one of a level's.
+// Whether each line is one of a level's, or has nothing.
 /** @param {Uint8Array} bytes */
-export const looksLikeLevel = (bytes) => LEVEL_LINES.test(textOf(bytes));
+export function looksLikeLevel(bytes) {
+    const [first, ...others] = textOf(bytes).split('\n');
+    return ROW.test(first) && others.every((line) => ROW.test(line) || /^[\s\0]*$/.test(line));
+}
 
 // What is said of a text with levels and more than one of them, or with words before it; nothing of
 // another text.

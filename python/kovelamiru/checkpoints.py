@@ -1,10 +1,10 @@
-"""Checkpoints of minutes (docs/AUDIT.md): which lines they are, by whom signed."""
+"""Checkpoints of a desk (docs/AUDIT.md): which minutes and lists it has, by whom signed."""
 from __future__ import annotations
 
 import hashlib
 import os
 import re
-from dataclasses import dataclass
+from dataclasses import astuple, dataclass
 from typing import Iterable, Optional
 
 from .faults import NoAnswer, Unreadable, broken, wrong
@@ -20,20 +20,33 @@ SECONDS, MOST_BYTES = 30, 4096
 
 @dataclass(frozen=True)
 class Checkpoint:
+    """The SHA-256 of the first minutes of a desk, and of each list that follows from them; older
+    ones name no lists."""
+
     owner: str
     calls: int
     minutes: str
+    dbx: str = ""
+    shim: str = ""
+    db: str = ""
+    level: str = ""
 
     def text(self) -> bytes:
-        return f"owner {self.owner}\ncalls {self.calls}\nminutes {self.minutes}\n".encode()
+        return "".join(f"{name} {value}\n" for name, value in vars(self).items()).encode()
+
+    def covers(self, other: Checkpoint) -> bool:
+        """It is the other one, or a later one with the same lists."""
+        (owner, calls, _, *lists), (whose, fewer, _, *theirs) = astuple(self), astuple(other)
+        return self == other or (owner, lists) == (whose, theirs) and calls > fewer and all(lists)
 
 
 def checkpoint_of(data: bytes) -> Checkpoint:
-    found = re.fullmatch(r"owner ([0-9a-f-]{36})\ncalls ([0-9]{1,7})\nminutes ([0-9a-f]{64})\n",
-                         data.decode("ascii", "replace"))
+    lists = "".join(f"{name} ([0-9a-f]{{64}})\n" for name in ("dbx", "shim", "db", "level"))
+    found = re.fullmatch("owner ([0-9a-f-]{36})\ncalls ([0-9]{1,7})\nminutes ([0-9a-f]{64})\n"
+                         f"(?:{lists})?", data.decode("ascii", "replace"))
     if not found:
         raise Unreadable("it is no checkpoint")
-    return Checkpoint(found[1], int(found[2]), found[3])
+    return Checkpoint(found[1], int(found[2]), *found.groups("")[2:])
 
 
 def sum_of(lines: Iterable[bytes], calls: int) -> str:
@@ -78,8 +91,8 @@ class Witness:
 
     @property
     def file(self) -> str:
-        """Its signature, where the checkpoint is published."""
-        return f"{NAME}.{self.name}.sig"
+        """What it signed, where that is published; the signature has `.sig` behind it."""
+        return f"witness-{self.name}.txt"
 
 
 def witnesses_in(path: str) -> list[Witness]:
@@ -101,9 +114,16 @@ def witnesses_in(path: str) -> list[Witness]:
     return made
 
 
-def unwitnessed(one: Witness, sign: bytes, text: bytes) -> str:
-    """Why this isn't its signature of a checkpoint; nothing if it is."""
-    return unsigned_by(one.key, WITNESSED, sign, text)
+def unwitnessed(one: Witness, text: bytes, sign: bytes, due: Checkpoint) -> str:
+    """Why this isn't its signed word for a checkpoint; nothing if it is."""
+    said = unsigned_by(one.key, WITNESSED, sign, text)
+    if said:
+        return said
+    try:
+        found = checkpoint_of(text)
+    except Unreadable as fault:
+        return str(fault)
+    return "" if found.covers(due) else f"it signed another one, of {found.calls} calls"
 
 
 def key_in(path: str) -> str:

@@ -169,6 +169,8 @@ def objects(answer: Answer) -> Iterator[dict[str, Any]]:
     while rest[at:at + 1] != "]":
         try:
             found, end = decoder.raw_decode(rest, at)
+        except RecursionError:
+            raise not_a_desk(answer) from None
         except ValueError:
             found, end = None, len(rest)
         if end < len(rest):

@@ -2,8 +2,9 @@
 from __future__ import annotations
 
 import ssl
+import threading
 import time
-from typing import Callable, Optional
+from typing import Callable, Optional, Sequence
 
 from .faults import NoAnswer, broken, reason
 from .http import Answer, Call, Site, address
@@ -18,9 +19,19 @@ def fetched(url: str, ca: Optional[str], program: str, seconds: float, most: int
     except OSError as error:
         broken(f"the certificates {ca}: {reason(error)}")
     site = Site(at, context, "", program)
-    site.until, site.most_seconds, site.most_bytes = time.monotonic() + seconds, seconds, most
+    site.until, site.most_bytes = time.monotonic() + seconds, most
     site.heard = heard
     answer = site.once(Call("GET", ""))
     if answer.status != 200:
         raise NoAnswer(f"status {answer.status}", True)
     return answer
+
+
+def side_by_side(works: Sequence[Callable[[], None]], seconds: float) -> None:
+    """Does all of these at once, for so long at most: what isn't done by then is nobody's."""
+    threads = [threading.Thread(target=work, daemon=True) for work in works]
+    for one in threads:
+        one.start()
+    until = time.monotonic() + seconds
+    for one in threads:
+        one.join(max(until - time.monotonic(), 0))

@@ -1,25 +1,31 @@
 """A desk over HTTP: its address, requests, answers, and one try of a request."""
 from __future__ import annotations
 
+import contextlib
 import hashlib
 import http.client
 import io
 import json
 import math
+import os
 import re
+import socket
 import ssl
 import tempfile
+import threading
 import time
 import urllib.parse
 from dataclasses import dataclass, replace
-from typing import Any, BinaryIO, Callable, Optional
+from typing import Any, BinaryIO, Callable, Iterator, Optional
 
 from . import VERSION
 from .faults import Lost, NoAnswer, Refused, Stop, Unreadable, broken, no_desks, reason
 from .words import printable
 
-# Seconds: to connect, to wait for the next bytes of an answer (the proxy waits for 300).
-CONNECT_SECONDS, ANSWER_SECONDS = 30, 330
+# Seconds: to connect, until an answer begins (the proxy waits for 300), and for all of it.
+CONNECT_SECONDS, ANSWER_SECONDS, BODY_SECONDS = 30, 330, 3600
+# What has to go out in a second at least, in bytes.
+RATE = 1 << 14
 # The least that each of them gets, however soon the asking ends.
 LEAST_SECONDS = 3
 PIECE = 1 << 16
@@ -109,7 +115,7 @@ class Answer:
     def json(self) -> Any:
         try:
             return json.loads(self.of_type(JSON).data())
-        except ValueError:
+        except (ValueError, RecursionError):
             raise not_a_desk(self) from None
 
     def object(self) -> dict[str, Any]:
@@ -127,7 +133,7 @@ class Answer:
             place = found.get("at")
             return Refused(int(found["refused"]), str(found["name"]),
                            place if isinstance(place, int) else None)
-        except (ValueError, TypeError, KeyError, AttributeError):
+        except (ValueError, TypeError, KeyError, AttributeError, RecursionError):
             return None
 
     def open_ended(self) -> bool:
@@ -139,7 +145,8 @@ class Answer:
         return self.status in UNTAKEN or (self.status >= 500 and self.status != 501)
 
     def trouble(self) -> str:
-        words = {408: "the request took too long", 429: "too many requests",
+        words = {400: "the proxy takes no such certificate, or its list of revoked ones is too old",
+                 408: "the request took too long", 429: "too many requests",
                  500: "the proxy failed", 502: "the proxy doesn't reach the desk",
                  504: "the desk takes too long"}
         refused = self.refusal()
@@ -153,22 +160,44 @@ def not_a_desk(answer: Answer) -> Stop:
     return no_desks(f"{answer.status}, {printable(answer.kind) or 'no type'}")
 
 
-def read_answer(response: http.client.HTTPResponse, seconds: float = math.inf,
-                most: float = math.inf, heard: Callable[[int], None] = lambda _: None) -> Answer:
-    """Reads a response whole; one that is cut is none. Each piece may come in time, and all of them
-    never: so there may be so many seconds for them, and so many bytes at most. What came is
+@contextlib.contextmanager
+def within(seconds: float, connection: socket.socket) -> Iterator[None]:
+    """Shuts a connection down where this isn't over in time. Each byte may come in time, and all of
+    them never."""
+    late = threading.Event()
+
+    def end() -> None:
+        late.set()
+        with contextlib.suppress(OSError):
+            connection.shutdown(socket.SHUT_RDWR)
+
+    timer = threading.Timer(seconds, end)
+    timer.daemon = True
+    timer.start()
+    try:
+        yield
+    except (OSError, NoAnswer, http.client.HTTPException):
+        if not late.is_set():
+            raise
+    finally:
+        timer.cancel()
+        timer.join()
+    if late.is_set():
+        raise TimeoutError(f"it wasn't whole after {seconds:.0f} seconds")
+
+
+def read_answer(response: http.client.HTTPResponse, most: float,
+                heard: Callable[[int], None]) -> Answer:
+    """Reads a response whole, of so many bytes at most; one that is cut is none. What came is
     told."""
     length = response.getheader("Content-Length", "")
     short = length.isdecimal() and int(length) <= 8 << 20
     body: BinaryIO = io.BytesIO() if short else tempfile.TemporaryFile()  # type: ignore[assignment]
-    until = time.monotonic() + seconds
     while piece := response.read1(PIECE):
         body.write(piece)
         heard(body.tell())
         if body.tell() > most:
             broken(f"an answer has more than {most} bytes")
-        if time.monotonic() > until:
-            broken(f"an answer wasn't whole after {seconds} seconds")
     size = body.tell()
     chunked = response.getheader("Transfer-Encoding", "").lower() == "chunked"
     if not chunked and (not length.isdecimal() or int(length) != size):
@@ -182,8 +211,8 @@ class Site:
     """An address, as one caller. The token is here alone: no argument, no environment and no
     message has it."""
 
-    # When the asking ends, by time.monotonic(); how long an answer may take, and be.
-    until = most_seconds = most_bytes = math.inf
+    # When the asking ends, by time.monotonic(); how many bytes an answer may be.
+    until, most_bytes = math.inf, 1 << 30
 
     def __init__(self, where: Where, context: Optional[ssl.SSLContext], token: str, program: str):
         self.where, self.context, self.program = where, context, program
@@ -200,36 +229,47 @@ class Site:
         return max(min(most, self.until - time.monotonic()), LEAST_SECONDS)
 
     def connection(self) -> http.client.HTTPConnection:
+        """A connection, but for the TLS of it."""
         host, port, seconds = self.where.host, self.where.port, self.seconds(CONNECT_SECONDS)
-        if self.context:
-            return http.client.HTTPSConnection(host, port, timeout=seconds, context=self.context)
-        return http.client.HTTPConnection(host, port, timeout=seconds)
+        made = (http.client.HTTPSConnection(host, port, timeout=seconds, context=self.context)
+                if self.context else http.client.HTTPConnection(host, port, timeout=seconds))
+        http.client.HTTPConnection.connect(made)
+        made.sock.settimeout(None)
+        return made
 
-    def once(self, call: Call, shown: Callable[[int], None] = lambda _: None) -> Answer:
-        """One try. What has gone out is shown."""
-        connection = self.connection()
+    def secured(self, connection: http.client.HTTPConnection, watched: socket.socket) -> None:
         try:
-            connection.connect()
+            with within(self.seconds(CONNECT_SECONDS), watched):
+                if self.context:
+                    connection.sock = self.context.wrap_socket(
+                        connection.sock, server_hostname=self.where.host)
         except ssl.SSLCertVerificationError as error:
             text = f"the certificate of {self.where} isn't trusted: {error.verify_message}"
             raise Lost(text, False,
                        "Is the URL right? A CA of your own is named by --ca FILE.") from None
-        except (OSError, ValueError) as error:
-            connection.close()
-            raise NoAnswer(f"no connection to {self.where}: {reason(error)}", False,
-                           isinstance(error, ConnectionRefusedError)) from None
+
+    def once(self, call: Call, shown: Callable[[int], None] = lambda _: None) -> Answer:
+        """One try. What has gone out is shown."""
+        sent = False
         try:
-            self.send(connection, call, shown)
-            return read_answer(connection.getresponse(), self.most_seconds, self.most_bytes,
-                               self.heard)
-        except (OSError, http.client.HTTPException) as error:
-            raise NoAnswer(f"the answer was lost: {reason(error)}", True) from None
-        finally:
-            connection.close()
+            connection = self.connection()
+            # (a socket of its own: TLS takes the other one)
+            with contextlib.closing(connection), \
+                    socket.socket(fileno=os.dup(connection.sock.fileno())) as watched:
+                self.secured(connection, watched)
+                sent = True
+                with within(self.seconds(ANSWER_SECONDS + len(call.body) / RATE), watched):
+                    self.send(connection, call, shown)
+                    response = connection.getresponse()
+                with within(self.seconds(BODY_SECONDS), watched):
+                    return read_answer(response, self.most_bytes, self.heard)
+        except (OSError, ValueError, http.client.HTTPException) as error:
+            what = "the answer was lost" if sent else f"no connection to {self.where}"
+            raise NoAnswer(f"{what}: {reason(error)}", sent,
+                           isinstance(error, ConnectionRefusedError)) from None
 
     def send(self, connection: http.client.HTTPConnection, call: Call,
              shown: Callable[[int], None]) -> None:
-        connection.sock.settimeout(self.seconds(ANSWER_SECONDS))
         connection.putrequest(call.method, self.where.prefix + call.path)
         connection.putheader("User-Agent", f"{self.program}/{VERSION}")
         if self.__token:

@@ -16,8 +16,8 @@ from .files import Exposed, is_token, private_line
 from .http import Answer, Call, Site, Where, address
 from .minutes import is_numbered
 
-# How long a desk's answer may take from its body's first byte on, and be: a list of 10,000
-# certificates has 625 MiB.
+# How long a desk may take to answer, however often it is asked, and how long an answer may be: a
+# list of 10,000 certificates has 625 MiB.
 ANSWER_SECONDS, ANSWER_BYTES = 300, 1 << 30
 # How many calls a desk accepts.
 MOST_CALLS = 1_000_000
@@ -77,12 +77,13 @@ class Reader(Site):
         where = where_of(words)
         context: Optional[ssl.SSLContext] = tls_of(words) if where.tls else None
         super().__init__(where, context, "" if words.cert else token_of(words.token_file), program)
-        self.most_seconds, self.most_bytes = ANSWER_SECONDS, ANSWER_BYTES
+        self.most_bytes = ANSWER_BYTES
 
     def asked(self, path: str, *others: int) -> Answer:
         """An answer of status 200, or of one of these. It is asked again where none came, or none
         of the desk's own."""
         said = ""
+        self.until = time.monotonic() + ANSWER_SECONDS
         for pause in (1, 2, 4, 8, 0):
             try:
                 answer = self.once(Call("GET", path))
@@ -91,9 +92,11 @@ class Reader(Site):
             else:
                 if answer.status in (200, *others):
                     return answer
-                said = f"{answer.status} {answer.data()[:200].decode(errors='replace')}"
+                said = answer.trouble()
                 if answer.status not in (429, 502, 503, 504):
                     break
+            if time.monotonic() + pause >= self.until:
+                break
             time.sleep(pause)
         broken(f"GET {path}: {said}")
 

@@ -14,7 +14,7 @@ from .faults import Unreadable, wrong
 from .files import looks_like, read_file
 from .microsoft import Published, arch_named, published_hashes, published_json, published_table
 from .pem import first_certificate
-from .sbat import LEVEL, LEVEL_LINES, level_held, level_read, one_level
+from .sbat import LEVEL, level_held, level_read, looks_like_level, one_level
 from .siglists import KINDS, VERSIONS, SignatureList, guid, is_version, read_lists
 from .update import unwrapped
 from .words import printable
@@ -159,7 +159,7 @@ def text_named(data: bytes, arch: Optional[str]) -> Optional[Revocations]:
                 f"its first line is {begin.splitlines()[0][:60]!r}, and no header that is known",
                 ("Nothing stands before a header. The desk's is kind,value,generation;"
                  " Microsoft's names a column with Authenticode. Commas are between."))
-        if table is None and LEVEL_LINES.match(text):
+        if table is None and looks_like_level(text):
             return level_named(data)
         return microsoft_named(table, arch) if table else None
     if arch:
@@ -181,7 +181,7 @@ def lists_in(data: bytes) -> Optional[Revocations]:
 
 def revocations_of(path: str, arch: Optional[str]) -> Revocations:
     """What a file names; its kind is found by its bytes."""
-    data = read_file(path, 256 << 20, "a file of revocations has here")
+    data = read_file(path, 32 << 20, "a file of revocations has here")
     try:
         level, notes = level_held(data)
         found = level_named(level, notes) if level else text_named(data, arch)

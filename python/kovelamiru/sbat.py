@@ -9,11 +9,10 @@ from .faults import Unreadable
 from .pe import texts_in
 from .update import variable
 
-# How a level begins, wherever it stands, and a line of one: its first line may be missing.
+# How a level begins, wherever it stands, and how a line of one does: its first line may be missing.
 LEVEL = re.compile(rb"sbat,0*1,[0-9]{10}(?![0-9])")
 STAMPS = re.compile(rb"(?m)^sbat,0*1,([0-9]{10})(?![0-9])")
-LEVEL_LINES = re.compile(rb"(?:[!-+\--~]{1,128},[0-9]{1,10}(?:,[^\n]*)?\r?(?:\n|\Z))+[\s\0]*\Z")
-
+ROW = re.compile(rb"[!-+\--~]{1,128},[0-9]{1,10}(?:,|\s*\Z)")
 
 # So many stamps are told.
 MANY = 20
@@ -34,6 +33,13 @@ def level_read(text: str, whole: bool = False) -> tuple[int, dict[str, int]]:
     if whole and not stamp:
         raise Unreadable("the level is no SBAT text")
     return stamp, found
+
+
+def looks_like_level(text: bytes) -> bool:
+    """Whether each line is one of a level's, or has nothing."""
+    first, *others = text.split(b"\n")
+    return bool(ROW.match(first)) and all(
+        ROW.match(line) or not line.strip(b" \t\r\0") for line in others)
 
 
 def one_level(text: bytes) -> None:

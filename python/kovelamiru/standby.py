@@ -19,7 +19,7 @@ from .checkpoints import (
 from .faults import DONE, REFUSED, NoAnswer, Stop, Unreadable, broken, wrong
 from .files import write_all
 from .minutes import copy_of
-from .programs import public_line, signature, unsigned_by
+from .programs import audited, public_line, signature, unsigned_by
 from .reader import Reader, add_reader, ended, has_reader
 from .terms import STATE
 
@@ -62,8 +62,8 @@ both are made anew. If not, it serves another history than it did: runbooks/rest
 can be had, or the key didn't sign it, a line on standard error says so, and following goes on.
 
 With --sign and --statement this machine is a witness: FOLDER gets checkpoint.txt, of the lines that
-`desk follow` took, and checkpoint.txt.sig (namespace kovelamiru-witness), which
-`desk-publish --witnesses` publishes.
+`desk follow` took and of the lists that follow from them, and checkpoint.txt.sig (namespace
+kovelamiru-witness), which `desk-publish --witnesses` publishes.
 
 Exit status: 0 DB has all lines; 1 refused; 2 wrong words; 3 a file, the connection or a program
 failed
@@ -214,8 +214,10 @@ def put(path: str, data: bytes) -> None:
 def testified(words: argparse.Namespace, copied: Copied, told: str) -> None:
     """Signs what `desk follow` reached, if it goes on from what was signed last."""
     path = os.path.join(words.statement, NAME)
-    minutes = dict(line.split(" ") for line in told.splitlines())["minutes"]
-    text = Checkpoint(words.owner.lower(), copied.count, minutes).text()
+    sums = dict(line.split(" ") for line in told.splitlines())
+    shim = hashlib.sha256(audited(words.program, words.owner, words.minutes, "shim")).hexdigest()
+    text = Checkpoint(words.owner.lower(), copied.count, sums["minutes"], sums["dbx"], shim,
+                      sums["db"], sums["level"]).text()
     if os.path.exists(path):
         with open(path, "rb") as file:
             last = file.read()

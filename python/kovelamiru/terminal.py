@@ -12,7 +12,7 @@ import threading
 from typing import Optional, Sequence, TextIO
 
 from .faults import wrong
-from .words import brief, cut, printable
+from .words import brief, cut, lines_of, printable
 
 
 # What `deskctl token` makes.
@@ -38,7 +38,8 @@ def fitted(cells: Sequence[Sequence[str]], stretch: int, room: int) -> list[str]
 
 
 def wrapped(text: str, stream: TextIO) -> str:
-    """On a terminal, lines of whole words."""
+    """A doubt; on a terminal, lines of whole words."""
+    text = f"! {printable(text)}"
     if not stream.isatty():
         return text
     return textwrap.fill(text, shutil.get_terminal_size().columns, subsequent_indent="  ",
@@ -46,7 +47,8 @@ def wrapped(text: str, stream: TextIO) -> str:
 
 
 class Terminal:
-    """What people see: results on standard output, all else on standard error."""
+    """What people see: results on standard output, all else on standard error. All that is shown
+    goes through here, and nothing moves a terminal's cursor."""
     def __init__(self, out: TextIO, err: TextIO):
         self.out, self.err = out, err
         self.quiet = False
@@ -56,19 +58,25 @@ class Terminal:
         self.wide = out.isatty()
 
     def say(self, text: str = "") -> None:
-        self.out.write(text + "\n")
+        self.out.write(lines_of(text) + "\n")
+
+    def data(self, data: bytes) -> None:
+        """A result as the desk has it; on a terminal as lines."""
+        if self.wide:
+            self.out.write(lines_of(data.decode("utf-8", "replace")))
+        else:
+            self.out.buffer.write(data)
 
     def doubt(self, text: str) -> None:
         """A doubt among the results."""
-        self.say(wrapped(f"! {text}", self.out))
+        self.say(wrapped(text, self.out))
 
     def note(self, text: str) -> None:
         if not self.quiet:
-            self.err.write(text + "\n")
-            self.err.flush()
+            self.warn(text)
 
     def warn(self, text: str) -> None:
-        self.err.write(text + "\n")
+        self.err.write(lines_of(text) + "\n")
         self.err.flush()
 
     def stop(self, text: str, more: Sequence[str]) -> None:
@@ -132,7 +140,7 @@ class Terminal:
         """Shows the doubts, and goes on only if a person types what is wanted, or --yes was given.
         `word` says the same without asking."""
         for doubt in doubts:
-            self.warn(wrapped(f"! {doubt}", self.err))
+            self.warn(wrapped(doubt, self.err))
         if self.yes:
             return
         if not self.asks:
@@ -143,7 +151,7 @@ class Terminal:
 
     def typed(self, question: str) -> str:
         """What a person types at a question."""
-        self.err.write(f"{question} ")
+        self.err.write(f"{printable(question)} ")
         self.err.flush()
         return sys.stdin.readline().strip()
 

@@ -143,6 +143,10 @@ class Story:
         else:
             self.by[(name, how)] = call.number
 
+    def earliest(self, some: set[str], how: str) -> int:
+        """The first of the calls by which these stand so, or 0."""
+        return min((self.by[(one, how)] for one in some if (one, how) in self.by), default=0)
+
     def answer(self) -> str:
         """Whether the image that is asked about is barred or allowed, and by what; '' where none
         is."""
@@ -151,7 +155,8 @@ class Story:
             return ""
         sets = (("digest", names.digests), ("certificate", names.certificates))
         for kind, some in sets:
-            for call in (self.by[(one, "revoked")] for one in some if (one, "revoked") in self.by):
+            call = self.earliest(some, "revoked")
+            if call:
                 return str(answers[kind].format(CALL=call))
         for name, has in names.image:
             if has < self.generations.get(name, 0):
@@ -159,7 +164,8 @@ class Story:
                     NAME=name, HAS=has, CALL=self.by[(name, "raised")],
                     GENERATION=self.generations[name]))
         for kind, some in sets:
-            for call in (self.by[(one, "listed")] for one in some if (one, "listed") in self.by):
+            call = self.earliest(some, "listed")
+            if call:
                 return str(answers[f"listed {kind}"].format(CALL=call))
         return str(answers["none"])
 

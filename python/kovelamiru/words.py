@@ -13,6 +13,12 @@ def printable(text: object) -> str:
     return "".join(sign if sign.isprintable() else f"\\x{ord(sign):02x}" for sign in str(text))
 
 
+def lines_of(text: str) -> str:
+    """The same of lines, which keep their ends and tabs."""
+    return text if text.isprintable() else "\n".join(
+        "\t".join(map(printable, line.split("\t"))) for line in text.split("\n"))
+
+
 def cut(text: str, width: int) -> str:
     """Text of a width at most: titles and names are told apart by their ends, so it loses its
     middle."""

@@ -15,7 +15,7 @@ from ..siglists import SignatureList, entries_in, read_lists
 from ..words import counted, printable
 from .run import Run
 
-LIMIT = 256 << 20
+LIMIT = 32 << 20
 Parts = Mapping[str, bytes]
 
 

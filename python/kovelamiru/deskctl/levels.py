@@ -28,4 +28,4 @@ def level(run: Run) -> None:
             run.terminal.note(WORDS["shim"]["left"].format(
                 name=name, generation=now[name], parent=parent, higher=now[parent]))
         now = {name: now[name] for name in now if name not in without}
-    run.terminal.out.write(level_text(stamp, now))
+    run.terminal.data(level_text(stamp, now).encode())

@@ -38,7 +38,7 @@ def me(run: Run) -> None:
 
 
 def report(run: Run) -> None:
-    run.terminal.out.write(run.desk.get("/report").of_type(TEXT).data().decode("utf-8", "replace"))
+    run.terminal.data(run.desk.get("/report").of_type(TEXT).data())
 
 
 def get(run: Run) -> None:
@@ -52,7 +52,7 @@ def get(run: Run) -> None:
         run.terminal.note(
             f"{printable(into)}: {len(data):,} bytes, SHA-256 {hashlib.sha256(data).hexdigest()}")
     else:
-        run.terminal.out.buffer.write(data)
+        run.terminal.data(data)
 
 
 def append(file: int, data: bytes) -> None:
@@ -102,7 +102,7 @@ def minutes(run: Run) -> None:
         minutes_into(run, run.words.into)
         return
     for data in minute_parts(run.desk):
-        run.terminal.out.buffer.write(data)
+        run.terminal.data(data)
 
 
 def token(run: Run) -> None:

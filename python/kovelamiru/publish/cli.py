@@ -15,7 +15,7 @@ from typing import Any
 from ..faults import DONE, broken, wrong
 from ..reader import Reader, add_reader, ended, has_reader
 from .desk import Found, from_file, from_url
-from .folder import current, filled, hidden, linked, named, published, swept
+from .folder import current, filled, hidden, linked, named, published, settled, swept
 from .rules import judged
 from .sums import day
 from .witness import witnessed
@@ -31,12 +31,13 @@ has
   audit.txt                    the lines of `desk audit`: `calls N`, then SHA-256
   audit-db.txt                 only while a change of db waits for consent: the lines of
                                the first calls, from which db.esl follows
-  checkpoint.txt               the owner, the calls and the SHA-256 of the minutes, to
-                               be kept (AUDIT.md); with --key checkpoint.txt.sig
+  checkpoint.txt               the owner, the calls and the SHA-256 of the minutes and
+                               of what follows from them, to be kept (AUDIT.md); with
+                               --key checkpoint.txt.sig
   index.html, dbx.json         for people and for programs, and not proved: the
                                level, what dbx and db have, what came since the last time
   dbx.auth, db.auth            what the signing command made, if one is named
-  checkpoint.txt.NAME.sig      with --witnesses, the signature of each
+  witness-NAME.txt             with --witnesses, what each signed, and .sig
   SHA256SUMS                   of all of these; above them calls, date and folder
   SHA256SUMS.sig               its signature, with --key
   minutes.txt                  for this user alone, unless --public-minutes; its
@@ -59,7 +60,6 @@ Nothing is published, and the line on standard error begins with `desk-publish: 
   witness     they don't begin with those of which a mirror has the checkpoint, signed by --key
   dbx         it lacks an entry that was published
   level       a generation or the stamp is below the published one
-  witnesses   fewer than -k witnesses signed its checkpoint within 90 seconds
   shim        shim-dbx.esl, read again, doesn't revoke what dbx does
   signature   the signing command failed; or firmware wouldn't take what it made: it doesn't end
               with the list, its time isn't after that of the update before, or is ahead of the
@@ -70,10 +70,10 @@ FOLDER alone shows an older copy of a desk, but not one that was restored togeth
 takes --witness, the checkpoint.txt of a mirror, with its checkpoint.txt.sig beside it. One that
 --key didn't sign, or that isn't there, stops nothing, and standard error says so.
 
-Options alone make no new publication: a changed --key or --sign takes effect with the next call.
-Once --public-minutes is left out, nobody else can read minutes.txt in any folder, though index.html
-still names it until the next publication; given again, the option holds from the next publication
-on.
+A changed --key publishes, as does a witness's new signature; other options alone don't: --sign
+takes effect with the next call. Once --public-minutes is left out, nobody else can read minutes.txt
+in any folder, though index.html still names it until the next publication; given again, the option
+holds from the next publication on.
 
 The signing command is run as COMMAND NAME LIST OUT for `dbx` and for `db`, unless the list is
 empty: it writes OUT, an authenticated update of that variable, in a folder of its own, of which
@@ -85,12 +85,15 @@ paths:
 
 A witness is whoever runs `desk-standby --sign KEY --statement FOLDER`, and shows that folder:
 WHERE is its checkpoint.txt, a URL or a file, and KEY its public SSH key. The signature says that
-its own `desk follow` reached these very minutes, which go on from what it signed before: who has
-the desk's machine and the key of --key can't show two histories without it. With a line `NAME KEY`
-for each in WITNESSES, whoever has a published folder checks
+its own `desk follow` reached these very minutes, which go on from what it signed before, and that
+these lists follow from them: who has this machine and --key can't show another list without it. A
+publication waits for no witness: what one signs later, of this checkpoint or of a later one with
+the same lists, is added by the next run. Whoever wants so many signatures asks for them
+(kovelamiru-mirror -k).
+With a line `NAME KEY` for each in WITNESSES, whoever has a published folder checks
 
   ssh-keygen -Y verify -f WITNESSES -I NAME -n kovelamiru-witness \\
-      -s checkpoint.txt.NAME.sig < checkpoint.txt
+      -s witness-NAME.txt.sig < witness-NAME.txt
 
 The file of consent has one line, `HEX CALLS NAME`: the SHA-256 of the new db.esl, the number of the
 call that changed db last, and the officer who looked at it. So it is for one change. Without it all
@@ -143,7 +146,8 @@ def publish(words: argparse.Namespace, link: str) -> str:
     if now > clock + 86400:
         print(f"desk-publish: what is published has the date {day(now)}, ahead of this clock: until"
               " then --renew does nothing", file=sys.stderr)
-    if last and last.found == found and (not words.renew or now - last.date < words.renew * 3600):
+    if last and last.found == found and (
+            not words.renew or now - last.date < words.renew * 3600) and settled(words, link):
         return f"calls {found.calls}: nothing new"
     if os.path.basename(named(link, now, found)) == current(link):
         # (the same calls within the same second)
@@ -175,7 +179,6 @@ OPTIONS: tuple[tuple[str, dict[str, Any]], ...] = (
                    " repeated"}),
     ("--witnesses", {"metavar": "FILE", "help": "who follows the desk and signs its checkpoint:"
                      " lines `NAME WHERE KEY`"}),
-    ("-k", {"metavar": "N", "type": int, "default": 1, "help": "how many of them have to (1)"}),
     ("--renew", {"metavar": "HOURS", "type": int, "default": 0,
                  "help": "publish again, with a new date, what is so old"}),
     ("--first", {"action": "store_true", "help": "FOLDER isn't there yet"}),
@@ -213,8 +216,6 @@ def words_of(arguments: list[str]) -> argparse.Namespace:
         parser.error("--kek goes with --sign")
     if words.witness and not words.key:
         parser.error("--witness takes --key: a checkpoint that nobody signed is anybody's")
-    if words.k < 1:
-        parser.error("-k is 1 at least")
     if words.keep < 2:
         parser.error("--keep is 2 at least: readers may still be in the last one")
     return words

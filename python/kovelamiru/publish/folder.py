@@ -9,8 +9,9 @@ import stat
 import time
 from typing import NoReturn, Optional
 
+from ..checkpoints import PUBLISHED, Checkpoint
 from ..faults import Unreadable, broken
-from ..programs import audited, refused, signature
+from ..programs import audited, public_line, refused, signature, unsigned_by
 from ..shim import NAME as SHIM, difference
 from ..update import efi_time
 from .desk import LISTS, Found, audit_of, digest
@@ -18,11 +19,11 @@ from .files import read, synced, write
 from .page import Before, Publication, dbx_json, firsts_of, index
 from .rules import db_follows, follows
 from .sums import NAME as SUMS, day, sums_of
-from .testimony import testimonies
+from .testimony import came, published_testimonies, testimonies
 from .updates import update
 
-# What signatures are for, by their namespaces.
-PUBLISH, MINUTES = "kovelamiru-publish", "kovelamiru-checkpoint"
+# What the signature of SHA256SUMS is for, by its namespace.
+PUBLISH = "kovelamiru-publish"
 PAGE, JSON, CHECKPOINT = "index.html", "dbx.json", "checkpoint.txt"
 # Of the calls from which db follows, where a later change of it waits for consent.
 DB_AUDIT = "audit-db.txt"
@@ -99,6 +100,16 @@ def swept(link: str, keep: int) -> None:
             shutil.rmtree(os.path.join(os.path.dirname(link), old))
 
 
+def settled(words: argparse.Namespace, link: str) -> bool:
+    """What is published stands, where the desk has nothing new: --key signed it, and each witness
+    that signed it by now is there."""
+    sums, sign = (os.path.join(os.path.realpath(link), f"{SUMS}{end}") for end in ("", ".sig"))
+    if words.key and (not os.path.lexists(sign) or unsigned_by(
+            public_line(words.key), PUBLISH, read(sign), read(sums))):
+        return False
+    return not words.witnesses or not came(words, link)
+
+
 def pages(words: argparse.Namespace, files: dict[str, bytes], found: Found, now: int,
           last: Optional[Before]) -> dict[str, bytes]:
     """What people and programs read of these files."""
@@ -125,12 +136,16 @@ def filled(words: argparse.Namespace, link: str, whole: str, now: int, found: Fo
         for name, data in (("dbx", found.dbx), ("db", found.db)):
             if data:
                 files[f"{name}.auth"] = update(words, name, data, f"{link}.sign", last)
-    files[CHECKPOINT] = (f"owner {words.owner.lower()}\ncalls {found.calls}\n"
-                         f"minutes {digest(found.minutes)}\n").encode()
+    told = audit_of(files["audit.txt"])
+    check = Checkpoint(words.owner.lower(), found.calls, told["minutes"], told["dbx"],
+                       digest(files[SHIM]), told["db"], told["level"])
+    files[CHECKPOINT] = check.text()
     if words.key:
-        files[f"{CHECKPOINT}.sig"] = signature(words.key, MINUTES, files[CHECKPOINT])
+        files[f"{CHECKPOINT}.sig"] = signature(words.key, PUBLISHED, files[CHECKPOINT])
     if words.witnesses:
-        files.update(testimonies(words, files[CHECKPOINT]))
+        files.update(testimonies(words, check))
+        # (a later word of a witness says less)
+        files.update(published_testimonies(link, files[CHECKPOINT]))
     files.update(pages(words, files, found, now, last))
     sums = f"# calls {found.calls}\n# date {day(now)}\n# folder {os.path.basename(whole)}\n"
     sums += "".join(f"{digest(data)}  {name}\n" for name, data in sorted(files.items()))

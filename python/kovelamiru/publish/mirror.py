@@ -11,19 +11,26 @@ import tempfile
 import time
 from typing import Callable, Optional
 
-from ..checkpoints import NAME as CHECKPOINT, unwitnessed, witnesses_in
+from ..checkpoints import (
+    NAME as CHECKPOINT, Checkpoint, checkpoint_of, unwitnessed, witnesses_in)
 from ..faults import DONE, NoAnswer, Unreadable, broken, wrong
 from ..fetch import fetched
 from ..programs import refused, unsigned
 from ..reader import ended
-from .desk import audit_of
+from ..shim import NAME as SHIM
+from .desk import LISTS, audit_of, digest
 from .files import read, synced, write
-from .folder import current, linked, swept
-from .rules import kept
+from .folder import DB_AUDIT, current, linked, swept
+from .rules import kept, nothing_gone
 from .sums import NAME as SUMS, Sums, day, sums_of
+from .updates import ends_with
 
 PROGRAM = "kovelamiru-mirror"
-# How long a file may take, and be; how often it is said how much of one came.
+# What firmware and shim take, by the words of a checkpoint.
+TAKEN = {**dict(zip(("dbx", "db", "level"), LISTS)), "shim": SHIM}
+# How long SHA256SUMS with its signature may take, and each be.
+SUMS_SECONDS, SUMS_BYTES = 60, 1 << 20
+# How long all files may take, and each be; how often it is said how much of one came.
 FILE_SECONDS, FILE_BYTES, SAID_SECONDS = 3600, 1 << 30, 10.0
 ABOUT = """\
 Fetches the folder that desk-publish published at URL, checks it, and makes FOLDER a link to a copy,
@@ -35,13 +42,19 @@ Nothing changes, and the line on standard error begins with `kovelamiru-mirror: 
   signature  SHA256SUMS isn't signed by NAME with a key of SIGNERS
   calls      it has fewer calls than the copy here: an older publication
   date       its date is earlier than that of the copy here, or ahead of this clock by a day
-  witnesses  fewer than -k of --witnesses signed its checkpoint
+  witnesses  fewer than -k of --witnesses signed its checkpoint, or a later one with its lists
   sums       a file isn't that of its sum
+  checkpoint audit.txt, a list, an update's list or minutes.txt isn't that of checkpoint.txt; while
+             a change of db waits for consent, db.esl is that of the copy here, or of audit-db.txt
+             without --witnesses
+  dbx        it lacks an entry that the copy here has
+  level      a generation or the stamp is below that of the copy here
   age        --oldest, and the date is older (the copy is made nevertheless)
 
 SIGNERS has a line `NAME KEY`, the public key of whoever publishes, by another way than from URL. So
 a mirror in between can't change a file or go back; --oldest finds one that stands still, where
-desk-publish has --renew.
+desk-publish has --renew. Who publishes can change no list without -k of WITNESSES; the page and
+dbx.json are theirs alone.
 
 The options stand in /etc/default/kovelamiru-mirror, for kovelamiru-mirror.timer:
 
@@ -57,19 +70,19 @@ def say(text: str) -> None:
     print(text, flush=True)
 
 
-def asked(words: argparse.Namespace, url: str,
+def asked(words: argparse.Namespace, url: str, until: float, most: int = FILE_BYTES,
           heard: Callable[[int], None] = lambda _: None) -> bytes:
     """What is at this URL."""
     try:
-        return fetched(url, words.ca, PROGRAM, FILE_SECONDS, FILE_BYTES, heard).data()
+        return fetched(url, words.ca, PROGRAM, until - time.monotonic(), most, heard).data()
     except (NoAnswer, Unreadable) as fault:
         broken(f"{url}: {fault}")
 
 
 def shown(words: argparse.Namespace) -> tuple[dict[str, bytes], Sums]:
     """The signed SHA256SUMS there, with its signature, and what it says."""
-    signs = f"{SUMS}.sig"
-    files = {name: asked(words, f"{words.url}/{name}") for name in (SUMS, signs)}
+    signs, until = f"{SUMS}.sig", time.monotonic() + SUMS_SECONDS
+    files = {name: asked(words, f"{words.url}/{name}", until, SUMS_BYTES) for name in (SUMS, signs)}
     kept(words.signers)
     with tempfile.NamedTemporaryFile() as at:
         at.write(files[signs])
@@ -126,27 +139,27 @@ def telling(name: str) -> Callable[[int], None]:
     return heard
 
 
-def filled(words: argparse.Namespace, new: str, files: dict[str, bytes], now: Sums) -> None:
+def filled(words: argparse.Namespace, new: str, files: dict[str, bytes], now: Sums,
+           last: Optional[Sums]) -> None:
     """Each file, of the copy here where it is the same, given to the disk."""
-    base = f"{words.url.rpartition('/')[0]}/{now.folder}"
-    wanted = sorted(now.files.items())
-    for name, due in wanted:
+    base, until = f"{words.url.rpartition('/')[0]}/{now.folder}", time.monotonic() + FILE_SECONDS
+    for name, due in sorted(now.files.items()):
         path, old = os.path.join(new, name), os.path.join(os.path.realpath(words.folder), name)
         if sum_of(old) == due:
             os.link(old, path)
             continue
-        data = asked(words, f"{base}/{name}", telling(name))
+        data = asked(words, f"{base}/{name}", until, heard=telling(name))
         say(f"  {name}: {len(data):,} bytes")
         if hashlib.sha256(data).hexdigest() != due:
             refused("sums", f"{base}/{name} isn't the file of its sum")
         write(path, data, 0o644)
+    check = held(words, new, now, last)
     if words.witnesses:
-        witnessed(words, new, now)
+        witnessed(words, new, now, check)
     if words.minutes:
-        data = asked(words, f"{base}/minutes.txt", telling("minutes.txt"))
-        told = audit_of(read(os.path.join(new, "audit.txt"))).get("minutes")
-        if hashlib.sha256(data).hexdigest() != told:
-            refused("sums", f"{base}/minutes.txt isn't that of audit.txt")
+        data = asked(words, f"{base}/minutes.txt", until, heard=telling("minutes.txt"))
+        if digest(data) != check.minutes:
+            refused("checkpoint", f"{base}/minutes.txt isn't that of {CHECKPOINT}")
         files = {**files, "minutes.txt": data}
     for name, data in files.items():
         write(os.path.join(new, name), data, 0o644)
@@ -156,21 +169,62 @@ def filled(words: argparse.Namespace, new: str, files: dict[str, bytes], now: Su
     synced(new)
 
 
-def witnessed(words: argparse.Namespace, new: str, now: Sums) -> None:
-    """So many witnesses signed the checkpoint."""
-    text = read(os.path.join(new, CHECKPOINT))
-    names = [one.name for one in witnesses_in(words.witnesses) if one.file in now.files
-             and not unwitnessed(one, read(os.path.join(new, one.file)), text)]
+def held(words: argparse.Namespace, new: str, now: Sums, last: Optional[Sums]) -> Checkpoint:
+    """The checkpoint. What firmware takes is what it names, and goes on from the copy here."""
+    def own(name: str) -> str:
+        return os.path.join(os.path.realpath(words.folder), name)
+
+    names = {CHECKPOINT, "audit.txt", *TAKEN.values()}
+    if names - now.files.keys():
+        refused("checkpoint", f"there is no {min(names - now.files.keys())}")
+    data = {name: read(os.path.join(new, name)) for name in now.files}
+    try:
+        due = checkpoint_of(data[CHECKPOINT])
+    except Unreadable as fault:
+        refused("checkpoint", f"{CHECKPOINT}: {fault}")
+    told = audit_of(data["audit.txt"])
+    if any(told.get(name) != str(getattr(due, name))
+           for name in ("calls", "minutes", "dbx", "db", "level")) or due.calls != now.calls:
+        refused("checkpoint", f"audit.txt or {SUMS} isn't that of {CHECKPOINT}")
+    for word, name in TAKEN.items():
+        before = audit_of(data.get(DB_AUDIT, b"")).get("db") if not words.witnesses else ""
+        waits = name == "db.esl" and now.files[name] in (sum_of(own(name)), before)
+        if now.files[name] != getattr(due, word) and not waits:
+            refused("checkpoint", f"{name} isn't that of {CHECKPOINT}")
+        update = data.get(f"{word}.auth")
+        if update is not None and not ends_with(update, data[name]):
+            refused("checkpoint", f"{word}.auth is an update with another list")
+    if last:
+        was = {}
+        for name in ("dbx.esl", "level.csv"):
+            same = last.files.get(name) == now.files[name]
+            if not same and sum_of(own(name)) != last.files.get(name):
+                broken(f"{own(name)} is damaged, and nothing can be held against it")
+            was[name] = data[name] if same else read(own(name))
+        nothing_gone(was["dbx.esl"], was["level.csv"], data["dbx.esl"], data["level.csv"])
+    return due
+
+
+def witnessed(words: argparse.Namespace, new: str, now: Sums, due: Checkpoint) -> None:
+    """So many witnesses signed the checkpoint, or a later one with its lists, which says nothing of
+    the minutes."""
+    def said(name: str) -> bytes:
+        return read(os.path.join(new, name)) if name in now.files else b""
+
+    names = [one.name for one in witnesses_in(words.witnesses)
+             if not unwitnessed(one, said(one.file), said(f"{one.file}.sig"), due)
+             and (not words.minutes or said(one.file) == due.text())]
     if len(names) < words.k:
         refused("witnesses", f"{len(names)} of {words.k} signed its {CHECKPOINT}")
 
 
-def replaced(words: argparse.Namespace, files: dict[str, bytes], now: Sums) -> None:
+def replaced(words: argparse.Namespace, files: dict[str, bytes], now: Sums,
+             last: Optional[Sums]) -> None:
     """The new copy gets its name, and the link goes to it."""
     new, whole = f"{words.folder}.new", os.path.join(os.path.dirname(words.folder), now.folder)
     os.mkdir(new, 0o700)
     try:
-        filled(words, new, files, now)
+        filled(words, new, files, now, last)
         if now.folder == current(words.folder):
             # A damaged copy makes room for a moment.
             os.rename(whole, f"{words.folder}.old")
@@ -204,7 +258,7 @@ def mirrored(words: argparse.Namespace) -> str:
         said = f"{text}: nothing new"
     else:
         say(f"{text}: fetching")
-        replaced(words, files, now)
+        replaced(words, files, now, last)
         swept(words.folder, words.keep)
         said = f"{text}: mirrored in {now.folder}"
     hours = (time.time() - now.date) / 3600

@@ -259,7 +259,7 @@ def files(now: Publication) -> list[str]:
         ("audit.txt", "what <code>desk audit</code> says of the minutes"),
         *([("audit-db.txt", f"the same of the first {now.found.db_calls:,} calls: db.esl is theirs,"
             " since a later change of db waits for a second officer")] if now.held else []),
-        ("checkpoint.txt", "which minutes these are, to be kept"),
+        ("checkpoint.txt", "which minutes and lists these are, to be kept"),
         *([("checkpoint.txt.sig", "its signature")] if now.signed else []),
         *([("minutes.txt", "each call that the desk accepted")] if now.public_minutes else []),
         ("SHA256SUMS", "the SHA-256 of each file, and the folder that has these very ones"),

@@ -42,11 +42,16 @@ def extends(last: Found, found: Found) -> None:
         at = next((number for number, (old_line, line) in pairs if old_line != line), 0)
         refused("minutes", f"they differ from those published at call {at}" if at else
                 f"they have {found.calls} calls, and those published {last.calls}")
-    gone = set(entries(last.dbx, "the published dbx")) - set(entries(found.dbx, "dbx"))
+    nothing_gone(last.dbx, last.level, found.dbx, found.level)
+
+
+def nothing_gone(old_dbx: bytes, old_level: bytes, dbx: bytes, level: bytes) -> None:
+    """No entry that dbx had, and no generation of the level."""
+    gone = set(entries(old_dbx, "the published dbx")) - set(entries(dbx, "dbx"))
     if gone:
         one = min(entry for _, entry in gone)[16:].hex()
         refused("dbx", f"{len(gone)} published entries are gone, as {one}")
-    (stamp, old), (now, new) = level_of(last.level), level_of(found.level)
+    (stamp, old), (now, new) = level_of(old_level), level_of(level)
     if now < stamp:
         refused("level", f"its stamp is {now}, and {stamp} was published")
     for name, generation in sorted(old.items()):

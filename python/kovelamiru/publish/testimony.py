@@ -1,47 +1,57 @@
-"""Witnesses sign a publication's checkpoint: others whose own `desk follow` reached its minutes."""
+"""What witnesses signed for a publication: others whose own `desk follow` reached its
+checkpoint."""
 from __future__ import annotations
 
 import argparse
-import time
+import os
+import sys
+from functools import partial
 
-from ..checkpoints import Witness, at, unwitnessed, witnesses_in
-from ..faults import NoAnswer, Unreadable, wrong
-from ..programs import refused
-
-# How long it is waited for witnesses, who follow each half minute, and how often they are asked.
-WAIT_SECONDS, PAUSE_SECONDS = 90, 5
-
-
-def testimony(words: argparse.Namespace, one: Witness, text: bytes) -> bytes:
-    """A witness's signature of this checkpoint, or why there is none."""
-    data = at(one.where, words.ca, "desk-publish")
-    if data != text:
-        lines = data.decode("ascii", "replace").splitlines()[1:2]
-        raise Unreadable(f"it signed another one: {''.join(lines)[:20]!r}")
-    sign = at(f"{one.where}.sig", words.ca, "desk-publish")
-    said = unwitnessed(one, sign, text)
-    if said:
-        raise Unreadable(said)
-    return sign
+from ..checkpoints import (
+    NAME, SECONDS, Checkpoint, Witness, at, checkpoint_of, unwitnessed, witnesses_in)
+from ..faults import NoAnswer, Stop, Unreadable
+from ..fetch import side_by_side
+from .files import read
+from .sums import NAME as SUMS, sums_of
 
 
-def testimonies(words: argparse.Namespace, text: bytes) -> dict[str, bytes]:
-    """The signatures of -k witnesses at least, by the names of their files."""
+def testimonies(words: argparse.Namespace, due: Checkpoint) -> dict[str, bytes]:
+    """Their words for this checkpoint, by the names of files. No publication waits for one, and no
+    witness for another."""
+    found: dict[str, bytes] = {}
+    why: dict[str, str] = {}
+
+    def ask(one: Witness) -> None:
+        try:
+            text, sign = (at(f"{one.where}{end}", words.ca, "desk-publish") for end in ("", ".sig"))
+            why[one.name] = unwitnessed(one, text, sign, due)
+        except (NoAnswer, Stop, Unreadable) as fault:
+            why[one.name] = str(fault)
+        if not why[one.name]:
+            found.update({one.file: text, f"{one.file}.sig": sign})
+
     witnesses = witnesses_in(words.witnesses)
-    if len(witnesses) < words.k:
-        wrong(f"{words.witnesses} has {len(witnesses)} witnesses, fewer than -k {words.k}")
-    until, found = time.monotonic() + WAIT_SECONDS, dict[str, bytes]()
-    while True:
-        why = []
-        for one in witnesses:
-            if one.file not in found:
-                try:
-                    found[one.file] = testimony(words, one, text)
-                except (NoAnswer, Unreadable) as fault:
-                    why.append(f"{one.name}: {fault}")
-        if len(found) >= words.k:
-            return found
-        if time.monotonic() >= until:
-            refused("witnesses", f"{len(found)} of {words.k} signed the checkpoint; "
-                    + "; ".join(why))
-        time.sleep(PAUSE_SECONDS)
+    side_by_side([partial(ask, one) for one in witnesses], SECONDS)
+    for one in witnesses:
+        said = why.get(one.name, f"no answer in {SECONDS} seconds")
+        if said:
+            print(f"desk-publish: {one.name} hasn't signed calls {due.calls} yet: {said}",
+                  file=sys.stderr)
+    return {**found}
+
+
+def published_testimonies(link: str, due: bytes) -> dict[str, bytes]:
+    """Those that were published with the same checkpoint."""
+    def one(name: str) -> bytes:
+        return read(os.path.join(os.path.realpath(link), name))
+
+    if not os.path.lexists(link) or one(NAME) != due:
+        return {}
+    return {name: one(name) for name in sums_of(one(SUMS)).files if name.startswith("witness-")}
+
+
+def came(words: argparse.Namespace, link: str) -> bool:
+    """Whether a witness has signed what is published since."""
+    text = read(os.path.join(os.path.realpath(link), NAME))
+    return not testimonies(words, checkpoint_of(text)).keys() <= published_testimonies(
+        link, text).keys()
