@@ -57,11 +57,7 @@ packed() { gzip -9n "$1"; }
 # ---- the files
 
 place 755 "$program" usr/bin/desk
-for script in may-serve fence; do
-    place 755 "$here/$script" "usr/lib/$name/$script"
-done
-for unit in desk.service fence.service fence.timer peer.service publish.service publish.timer standby.service standby.timer \
-    mirror.service mirror.timer; do
+for unit in desk.service publish.service publish.timer standby.service standby.timer mirror.service mirror.timer; do
     place 644 "$here/kovelamiru-$unit" "usr/lib/systemd/system/kovelamiru-$unit"
 done
 place 644 "$here/kovelamiru-desk.sysusers" usr/lib/sysusers.d/kovelamiru-desk.conf
@@ -87,7 +83,7 @@ while read -r module; do
     place 644 "$root/python/$module" "usr/lib/$name/$module"
 done < "$room/modules"
 ln -s "../../../share/$name/page/wire" "$tree/usr/lib/$name/kovelamiru/wire"
-for tool in desk-peer desk-publish desk-standby kovelamiru-mirror; do
+for tool in desk-publish desk-standby kovelamiru-mirror; do
     place 755 "$here/$tool" "usr/lib/$name/$tool"
     ln -s "../lib/$name/$tool" "$tree/usr/bin/$tool"
 done
@@ -109,8 +105,7 @@ ln -s "../../../share/$name/page" "$tree/$demo/page"
 ln -s "../lib/$name/demo/packaging/demo.sh" "$tree/usr/bin/desk-demo"
 
 python3 "$here/man.py" "$program" "$(date -d "@$SOURCE_DATE_EPOCH" +%F)" "$room"
-for page in desk.1 desk-http.7 desk-operate.7 desk-demo.1 desk-peer.1 desk-publish.1 desk-standby.1 \
-    kovelamiru-mirror.1; do
+for page in desk.1 desk-http.7 desk-operate.7 desk-demo.1 desk-publish.1 desk-standby.1 kovelamiru-mirror.1; do
     packed "$room/$page"
     place 644 "$room/$page.gz" "usr/share/man/man${page##*.}/$page.gz"
 done

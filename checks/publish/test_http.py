@@ -53,7 +53,7 @@ def test_a_token_is_an_officers_and_this_users(
     signed: Place, serve: Callable[..., Server]
 ) -> None:
     url = f"http://127.0.0.1:{serve(signed.db).port}"
-    signed.publish(3, "GET /minutes/1: 403", of=by(url, private_token(signed, "ann")))
+    signed.publish(3, "GET /minutes/1: refused 21 ", of=by(url, private_token(signed, "ann")))
     olga = private_token(signed, "olga")
     os.chmod(olga, 0o640)
     signed.publish(2, "others can read", of=by(url, olga))
