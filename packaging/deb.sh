@@ -60,6 +60,7 @@ place 755 "$program" usr/bin/desk
 for unit in desk.service publish.service publish.timer standby.service standby.timer mirror.service mirror.timer; do
     place 644 "$here/kovelamiru-$unit" "usr/lib/systemd/system/kovelamiru-$unit"
 done
+place 644 "$here/10-sandbox.conf" usr/lib/systemd/system/kovelamiru-.service.d/10-sandbox.conf
 place 644 "$here/kovelamiru-desk.sysusers" usr/lib/sysusers.d/kovelamiru-desk.conf
 place 644 "$here/desk.bash" usr/share/bash-completion/completions/desk
 place 644 "$here/desk.nft" "usr/share/doc/$name/examples/desk.nft"

@@ -52,13 +52,15 @@ def test_each_user_is_made_with_a_folder(package: Package, room: Path) -> None:
 @pytest.fixture
 def units(package: Package, room: Path) -> list[Path]:
     """The units, with the programs of the unpacked package."""
-    for path in sorted((package.root / UNITS).iterdir()):
+    shutil.copytree(package.root / UNITS, room, dirs_exist_ok=True)
+    assert {one.name for one in room.iterdir()} == {
+        "kovelamiru-.service.d", *(f"{name}.timer" for name in TIMED),
+        *(f"{name}.service" for name in SERVICES),
+    }
+    for path in room.glob("*.service"):
         text = re.sub("(?m)^ExecStart=/", f"ExecStart={package.root}/", path.read_text())
-        (room / path.name).write_text(text)
-    found = sorted(room.iterdir())
-    timers = [f"{name}.timer" for name in TIMED]
-    assert {one.name for one in found} == {*timers, *(f"{name}.service" for name in SERVICES)}
-    return found
+        path.write_text(text)
+    return sorted(one for one in room.iterdir() if one.is_file())
 
 
 @pytest.mark.if_there("systemd-analyze")
