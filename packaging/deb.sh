@@ -74,6 +74,9 @@ done
 for runbook in "$here"/runbooks/*.md; do
     place 644 "$runbook" "usr/share/doc/$name/runbooks/${runbook##*/}"
 done
+for file in "$here"/cluster/*; do
+    place 644 "$file" "usr/share/doc/$name/cluster/${file##*/}"
+done
 for page in AUDIT INTEROPERATION TOOLS WALKTHROUGH; do
     sed -f "$here/links.sed" "$root/docs/$page.md" > "$room/$page.md"
     place 644 "$room/$page.md" "usr/share/doc/$name/$page.md"

@@ -11,6 +11,7 @@ from checks.packaging.conftest import NAME, Package
 from checks.packaging.machines import AS_DESK, READS, STATE, Machine
 from checks.support.images import OWNER, sha256
 from checks.support.steps import Step, named, proposes
+from checks.support.tools import ROOT
 from checks.support.waits import until
 
 pytestmark = [
@@ -115,6 +116,18 @@ def test_a_desk_that_is_in_use_is_tried_until_it_is_free(serving: Machine) -> No
     serving.becomes("active")
     serving.answers(READS)
     assert serving.told(NAME, "ExecMainStatus")[0] == "0"
+
+
+def test_a_desk_that_hangs_is_ended_and_begins_again(serving: Machine) -> None:
+    """By the question of packaging/cluster, which is asked at once, and waits for a second."""
+    unit = (ROOT / "packaging/cluster/kovelamiru-answers.service").read_text()
+    unit = unit.replace("sleep 30", "sleep 1").replace("--max-time 120", "--max-time 1")
+    serving.writes("/etc/systemd/system/kovelamiru-answers.service", unit)
+    before = serving.number()
+    serving.run("kill", "-STOP", str(before))
+    serving.run("systemctl", "start", "kovelamiru-answers")
+    serving.answers(READS)
+    assert serving.number() not in (0, before)
 
 
 def test_an_upgrade_copies_the_desk_and_it_goes_on_and_a_removal_leaves_it(
