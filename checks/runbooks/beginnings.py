@@ -8,10 +8,11 @@ from pathlib import Path
 from typing import Callable
 
 from checks.runbooks.machine import DESK, Machine
+from checks.runbooks.standby import follows
 from checks.support.images import OWNER, authenticode, sha256
 from checks.support.ports import listening
 from checks.support.says import expect, fail
-from checks.support.tools import EXAMPLES, ran
+from checks.support.tools import EXAMPLES
 
 SIGNED = (EXAMPLES / "loader.efi").read_bytes()
 CERTIFICATE = (EXAMPLES / "signer.der").read_bytes()
@@ -163,21 +164,7 @@ def stands_by(machine: Machine) -> Machine:
     worked(machine)
     newest(machine)
     old = machine.moves_out()
-    (certificates := machine.room / "certificates").mkdir()
-    old.knows_by_certificates(certificates)
-    for name in ("ca.pem", "standby.pem"):
-        machine.writes(f"etc/{name}", (certificates / name).read_bytes(), mode=0o644)
-    machine.writes("etc/kovelamiru-standby.key", (certificates / "standby.key").read_bytes())
-    ran("ssh-keygen", "-q", "-t", "ed25519", "-N", "", "-f", certificates / "witness")
-    for name in ("witness", "witness.pub"):
-        machine.writes(f"standby/{name}", (certificates / name).read_bytes(), DESK)
-    room = machine.room
-    words = f"--url https://127.0.0.1:{old.own} --owner {OWNER} --ca {room}/etc/ca.pem" \
-        f" --cert {room}/etc/standby.pem --program {room}/bin/desk" \
-        f" --sign {room}/standby/witness --statement {room}/witness"
-    machine.writes("etc/default/kovelamiru-standby", f'STANDBY="{words}"\n', mode=0o644)
-    for _ in range(2):
-        machine.system("start", "kovelamiru-standby")
+    follows(machine, old)
     old.does("ann", "/requests", plain(5), Desk_Title="grub2 2.12-5")
     return old
 

@@ -15,7 +15,6 @@ from pathlib import Path
 from typing import Any
 
 from checks.runbooks.standins import LISTENS, RUNS_AS, SUPERVISE, SYSTEMCTL
-from checks.support.certificates import authority, issued, revoked_none
 from checks.support.images import OWNER, sha256
 from checks.support.ports import Held, listening
 from checks.support.says import fail
@@ -253,29 +252,6 @@ class Machine:
         words = ["nginx", "-p", f"{folder}/", "-e", f"{folder}/error.log", "-c", "nginx.conf"]
         subprocess.Popen(words)
         until(60, "nginx listens", lambda: listening(self.proxy))
-
-    def knows_by_certificates(self, room: Path) -> None:
-        """The site of nginx-certificates.conf, for a standby alone, with certificates of the
-        room's authority."""
-        authority(room)
-        revoked_none(room)
-        issued(room, "people", "", "IP:127.0.0.1")
-        issued(room, "standby", "/O=Example/CN=standby")
-        (self.room / "etc/ssl/private").mkdir(parents=True)
-        (self.room / "etc/ssl/certs").mkdir()
-        for name, path in (
-            ("people.pem", "certs/people.desk.example.org.pem"),
-            ("people.key", "private/people.desk.example.org.key"),
-            ("ca.pem", "certs/kovelamiru-desk-people.pem"),
-            ("ca.crl", "certs/kovelamiru-desk-people.crl"),
-        ):
-            self.writes(f"etc/ssl/{path}", (room / name).read_bytes())
-        self.writes("etc/nginx/kovelamiru-desk.people", "")
-        line = '"~^\\QCN=standby,O=Example\\E$" "%s";\n' % self.tokens["olga"]
-        self.writes("etc/nginx/kovelamiru-desk.machines", line)
-        site = self.site("nginx-certificates.conf", " ssl")
-        self.writes("etc/nginx/sites-enabled/nginx-certificates.conf", site)
-        self.system("reload", "nginx")
 
     # ---- its shells
 
