@@ -51,40 +51,80 @@ def test_drbd_writes_to_both_disks_or_fences() -> None:
 
 
 @pytest.fixture
-def cib(room: Path) -> ET.Element:
+def cib(room: Path) -> Path:
     """What crm makes of desk.crm, as of a cluster that sbd watches."""
-    given = {**os.environ, "CIB_file": str(room / "cib.xml"), "HOME": str(room)}
-    (room / "cib.xml").write_bytes(ran("cibadmin", "--empty"))
+    made = room / "cib.xml"
+    made.write_bytes(ran("cibadmin", "--empty"))
     loads = ("load", "update", str(CLUSTER / "desk.crm"))
     for words in (loads, ("property", "have-watchdog=true")):
-        done = subprocess.run(["crm", "--force", "configure", *words], env=given, check=False,
-                              capture_output=True, text=True, timeout=120)
+        done = subprocess.run(["crm", "--force", "configure", *words], check=False, text=True,
+                              capture_output=True, timeout=120,
+                              env={**os.environ, "CIB_file": str(made), "HOME": str(room)})
         assert done.returncode == 0, done.stderr
         # (this machine's systemd may not run)
         odd = re.findall("(?m)^.*ERROR.*$", re.sub("(?m)^.*systemd:.*$", "", done.stderr))
         assert not [one for one in odd if "STONITH" not in one and "crm_verify" not in one], odd
-    ran("crm_verify", "-x", room / "cib.xml", "-V")
-    return ET.parse(room / "cib.xml").getroot()
+    ran("crm_verify", "-x", made, "-V")
+    return made
 
 
 @pytest.mark.if_there("crm", "crm_verify", "cibadmin")
-def test_the_desk_runs_where_its_disk_is_promoted_behind_its_folder(cib: ET.Element) -> None:
-    group = [one.get("id") for one in cib.findall(".//group/primitive")]
+def test_the_desk_is_behind_its_folder_and_in_front_of_its_address(cib: Path) -> None:
+    found = ET.parse(cib).getroot()
+    group = [one.get("id") for one in found.findall(".//group/primitive")]
     assert group == ["files", "folder", "desk", "nginx", "address"]
-    beside, after = cib.find(".//rsc_colocation"), cib.find(".//rsc_order")
-    assert beside is not None and after is not None
+    beside = found.find("*//rsc_colocation")
+    assert beside is not None
     assert [beside.get(key) for key in ("score", "rsc", "with-rsc", "with-rsc-role")] == [
         "INFINITY", "service", "disks", "Promoted"]
-    assert [after.get(key) for key in ("kind", "first", "first-action", "then")] == [
-        "Mandatory", "disks", "promote", "service"]
-    shown = {one.get("name"): one.get("value") for one in cib.iter("nvpair")}
-    assert (shown["stonith-enabled"], shown["no-quorum-policy"]) == ("true", "stop")
-    unit = (ROOT / "packaging/kovelamiru-desk.service").read_text()
-    folder = cib.find(".//primitive[@id='folder']//nvpair[@name='directory']")
+    folder = found.find(".//primitive[@id='folder']//nvpair[@name='directory']")
     assert folder is not None and folder.get("value") == "/var/lib/kovelamiru-desk"
+    unit = (ROOT / "packaging/kovelamiru-desk.service").read_text()
     assert "StateDirectory=kovelamiru-desk\n" in unit
-    assert {one.get("type") for one in cib.iter("primitive") if one.get("class") == "systemd"} == {
-        "kovelamiru-desk", "nginx"}
+    units = {one.get("type") for one in found.iter("primitive") if one.get("class") == "systemd"}
+    assert units == {"kovelamiru-desk", "nginx"}
+
+
+# ---- what the cluster would do, by its own scheduler
+
+NODE = """<node_state id="{0}" uname="{1}" in_ccm="true" crmd="online" join="member"
+expected="member"><lrm id="{0}"><lrm_resources/></lrm><transient_attributes id="{0}">
+<instance_attributes id="of-{1}"><nvpair id="score-{1}" name="master-disk" value="{2}"/>
+</instance_attributes></transient_attributes></node_state>"""
+
+
+@pytest.fixture
+def running(cib: Path) -> Path:
+    """All of it runs on a, whose disk is the better one."""
+    tree = ET.parse(cib)
+    nodes, status = tree.find(".//nodes"), tree.find("status")
+    assert nodes is not None and status is not None
+    tree.getroot().attrib.update({"dc-uuid": "1", "have-quorum": "1"})
+    for number, (name, score) in enumerate((("a", 10000), ("b", 9000)), 1):
+        ET.SubElement(nodes, "node", id=str(number), uname=name)
+        status.append(ET.fromstring(NODE.format(number, name, score)))
+    tree.write(cib)
+    did = does(cib, "--quorum=1", "--save-output", cib.with_name("running.xml"))
+    assert did[-6:-4] == ["disk promote a", "files start a"], did
+    return cib.with_name("running.xml")
+
+
+def does(cib: Path, *words: str | Path) -> list[str]:
+    """What is promoted, started, stopped and fenced, in this order."""
+    said = ran("crm_simulate", "-x", cib, "--simulate", *words).decode()
+    text = re.sub(r"(?m)^.*\* Fencing (\w+) .*$", r"* Resource action: cluster fence on \1", said)
+    found = re.findall(r"Resource action: (\w+)(?::\d)? +(\w+) on (\w+)$", text, re.M)
+    return [" ".join(one) for one in found if one[1] not in ("monitor", "notify")]
+
+
+@pytest.mark.if_there("crm", "crm_simulate", "cibadmin")
+def test_the_other_machine_serves_once_a_failed_one_is_fenced(running: Path) -> None:
+    order = ["files", "folder", "desk", "nginx", "address"]
+    starts = [f"{one} start b" for one in order]
+    failed = does(running, "--quorum=1", "--node-fail=a")
+    assert failed == ["cluster fence a", "disk promote b", *starts]
+    alone = does(running, "--quorum=0", "--node-fail=a")
+    assert alone == ["disk stop b"]
 
 
 @pytest.mark.if_there("systemd-analyze")
