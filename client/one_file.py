@@ -12,8 +12,8 @@ import zipfile
 
 
 # What deskctl doesn't use.
-OTHERS = ("publish", "checkpoints.py", "mirror.py", "fetch.py", "peer.py", "programs.py",
-          "reader.py", "standby.py", "shim.py", "terms.py")
+OTHERS = ("publish", "checkpoints.py", "mirror.py", "fetch.py", "programs.py", "reader.py",
+          "standby.py", "shim.py")
 
 
 def packed(source: pathlib.Path) -> io.BytesIO:

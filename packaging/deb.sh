@@ -7,63 +7,35 @@
 # SOURCE_DATE_EPOCH (by default the commit's date) give the same bytes. It needs dpkg-dev, git, gzip
 # and python3.
 set -eu
-umask 022
-export LC_ALL=C TZ=UTC
-root=$(CDPATH='' cd -- "$(dirname -- "$(readlink -f -- "$0")")/.." && pwd -P)
-here=$root/packaging
+here=$(dirname -- "$(readlink -f -- "$0")")
+name=kovelamiru-desk
+. "$here/deb-common.sh"
 
-fail() {
-    echo "packaging/deb.sh: $*" >&2
-    exit 1
-}
 if [ $# -lt 1 ] || [ $# -gt 2 ]; then fail 'deb.sh PROGRAM [OUT]'; fi
 program=$(readlink -f -- "$1") || fail "there is no $1"
 out=$(readlink -f -- "${2-.}")
-for tool in dpkg-deb dpkg-shlibdeps git gzip python3; do
-    command -v "$tool" > /dev/null || fail "$tool is needed"
-done
+wants dpkg-deb dpkg-shlibdeps git gzip python3
 # An executable for x86-64 that asks for the loader of every Debian system.
 readelf -hl "$program" 2> /dev/null > /dev/null || fail "$program is no program"
 readelf -h "$program" | grep -q 'Machine: .*X86-64' || fail "$program is for another machine"
 readelf -l "$program" | grep -q 'interpreter: /lib64/ld-linux-x86-64.so.2' ||
     fail "$program asks for a loader of its own"
 
-name=kovelamiru-desk
+
 record=$("$here/record" read "$program")
 # record_value KEY: prints it.
 record_value() { echo "$record" | sed -n "s/^$1 //p"; }
 commit=$(record_value commit)
 # As `desk 0.2.0`.
-version=$("$program" --version | sed -n 's/^desk \([^ ]*\).*/\1/p')
-newest=$(sed -n '/^## /{s/^## \([^ ,]*\).*/\1/p;q}' "$root/CHANGELOG.md")
-[ "$version" = "$newest" ] || fail "the program has version $version, and CHANGELOG.md $newest"
-committed=$(git -C "$root" log -1 --format=%ct)
-# The package's version has the commit's date and hash, and is lower than the one without.
-version=$version~git$(date -d "@$committed" +%Y%m%d).$(echo "$commit" | cut -c1-8)
-SOURCE_DATE_EPOCH=${SOURCE_DATE_EPOCH:-$committed}
-export SOURCE_DATE_EPOCH
-maintainer=$(git -C "$root" log -1 --format='%an <%ae>')
-
-room=$(mktemp -d)
-trap 'rm -rf "$room"' EXIT
-trap 'exit 1' HUP INT TERM
-tree=$room/tree
-
-# place MODE FROM TO: a file of the package.
-place() { install -D -m "$1" "$2" "$tree/$3"; }
-# packed FILE: the same bytes each time.
-packed() { gzip -9n "$1"; }
+versioned 'the program' "$("$program" --version | sed -n 's/^desk \([^ ]*\).*/\1/p')" "$commit"
 
 # ---- the files
 
 place 755 "$program" usr/bin/desk
-for script in may-serve fence; do
-    place 755 "$here/$script" "usr/lib/$name/$script"
-done
-for unit in desk.service fence.service fence.timer peer.service publish.service publish.timer standby.service standby.timer \
-    mirror.service mirror.timer; do
+for unit in desk.service publish.service publish.timer standby.service standby.timer mirror.service mirror.timer; do
     place 644 "$here/kovelamiru-$unit" "usr/lib/systemd/system/kovelamiru-$unit"
 done
+place 644 "$here/10-sandbox.conf" usr/lib/systemd/system/kovelamiru-.service.d/10-sandbox.conf
 place 644 "$here/kovelamiru-desk.sysusers" usr/lib/sysusers.d/kovelamiru-desk.conf
 place 644 "$here/desk.bash" usr/share/bash-completion/completions/desk
 place 644 "$here/desk.nft" "usr/share/doc/$name/examples/desk.nft"
@@ -77,6 +49,9 @@ done
 for runbook in "$here"/runbooks/*.md; do
     place 644 "$runbook" "usr/share/doc/$name/runbooks/${runbook##*/}"
 done
+for file in "$here"/cluster/*; do
+    place 644 "$file" "usr/share/doc/$name/cluster/${file##*/}"
+done
 for page in AUDIT INTEROPERATION TOOLS WALKTHROUGH; do
     sed -f "$here/links.sed" "$root/docs/$page.md" > "$room/$page.md"
     place 644 "$room/$page.md" "usr/share/doc/$name/$page.md"
@@ -87,7 +62,7 @@ while read -r module; do
     place 644 "$root/python/$module" "usr/lib/$name/$module"
 done < "$room/modules"
 ln -s "../../../share/$name/page/wire" "$tree/usr/lib/$name/kovelamiru/wire"
-for tool in desk-peer desk-publish desk-standby kovelamiru-mirror; do
+for tool in desk-publish desk-standby kovelamiru-mirror; do
     place 755 "$here/$tool" "usr/lib/$name/$tool"
     ln -s "../lib/$name/$tool" "$tree/usr/bin/$tool"
 done
@@ -109,41 +84,15 @@ ln -s "../../../share/$name/page" "$tree/$demo/page"
 ln -s "../lib/$name/demo/packaging/demo.sh" "$tree/usr/bin/desk-demo"
 
 python3 "$here/man.py" "$program" "$(date -d "@$SOURCE_DATE_EPOCH" +%F)" "$room"
-for page in desk.1 desk-http.7 desk-operate.7 desk-demo.1 desk-peer.1 desk-publish.1 desk-standby.1 \
-    kovelamiru-mirror.1; do
+for page in desk.1 desk-http.7 desk-operate.7 desk-demo.1 desk-publish.1 desk-standby.1 kovelamiru-mirror.1; do
     packed "$room/$page"
     place 644 "$room/$page.gz" "usr/share/man/man${page##*.}/$page.gz"
 done
 
-cp "$root/CHANGELOG.md" "$room/CHANGELOG.md"
-{
-    printf '%s (%s) unstable; urgency=medium\n\n' "$name" "$version"
-    printf '  * CHANGELOG.md.gz has the changes.\n\n'
-    printf ' -- %s  %s\n' "$maintainer" \
-        "$(date -d "@$SOURCE_DATE_EPOCH" '+%a, %d %b %Y %H:%M:%S +0000')"
-} > "$room/changelog"
-for text in CHANGELOG.md changelog; do
-    packed "$room/$text"
-    place 644 "$room/$text.gz" "usr/share/doc/$name/$text.gz"
-done
+documented << KIT
 
-# The copyright according to the repository: a licence, or that there is none.
-{
-    printf 'Kovelamiru, a Secure Boot signing and revocation desk. Copyright: its owner, %s.\n\n' \
-        "$(date -d "@$SOURCE_DATE_EPOCH" +%Y)"
-    if [ -e "$root/LICENSE" ]; then
-        cat "$root/LICENSE"
-    else
-        grep 'no LICENSE file' "$root/CONTRIBUTING.md" ||
-            fail 'CONTRIBUTING.md says nothing of a licence'
-        printf 'So this package is for those whom the owner lets have it, and is not to be '
-        printf 'passed on before a licence is named.\n'
-    fi
-    printf '\nThe program was built by the Rattle kit (%s), whose libraries are part of it.\n' \
-        "$(record_value kit)"
-} > "$room/copyright"
-place 644 "$room/copyright" "usr/share/doc/$name/copyright"
-
+The program was built by the Rattle kit ($(record_value kit)), whose libraries are part of it.
+KIT
 cat > "$room/README.Debian" << README
 Whoever made this package says that \`$(record_value by)\` proved and built /usr/bin/desk from this
 commit, without an edit, and that rt said of it last what stands here. No signature, and nothing in
@@ -176,14 +125,10 @@ printf 'Source: %s\n\nPackage: %s\nArchitecture: amd64\n' "$name" "$name" > "$ro
 needs=$(cd "$room" && dpkg-shlibdeps -O -e"$tree/usr/bin/desk" 2> needs.err |
     sed -n 's/^shlibs:Depends=//p') || fail "$(cat "$room/needs.err")"
 [ -n "$needs" ] || fail "no libraries are found: $(cat "$room/needs.err")"
-size=$(find "$tree" -type f -printf '%s\n' |
-    awk '{ kib += int(($1 + 1023) / 1024) } END { print kib }')
-cat > "$tree/DEBIAN/control" << CONTROL
-Package: $name
-Version: $version
-Architecture: amd64
-Maintainer: $maintainer
-Installed-Size: $size
+for script in preinst postinst prerm postrm; do
+    place 755 "$here/$script" "DEBIAN/$script"
+done
+built amd64 << CONTROL
 Depends: $needs, systemd | systemd-standalone-sysusers | systemd-sysusers
 Recommends: python3 (>= 3.9)
 Suggests: nginx, curl, nftables, efitools, kovelamiru-deskctl, bash-completion
@@ -200,13 +145,3 @@ Description: Secure Boot signing and revocation desk
  .
  That acknowledged commands are never lost is proved.
 CONTROL
-for script in preinst postinst prerm postrm; do
-    if [ -e "$here/$script" ]; then place 755 "$here/$script" "DEBIAN/$script"; fi
-done
-(cd "$tree" && find . -path ./DEBIAN -prune -o -type f -printf '%P\n' | sort | xargs md5sum) \
-    > "$room/md5sums"
-place 644 "$room/md5sums" DEBIAN/md5sums
-find "$tree" -exec touch -h -d "@$SOURCE_DATE_EPOCH" {} +
-deb=$out/${name}_${version}_amd64.deb
-dpkg-deb --root-owner-group --threads-max=1 -Zxz --build "$tree" "$deb" > "$room/built"
-echo "$deb"

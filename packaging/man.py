@@ -70,7 +70,6 @@ FILES = {
     "/var/lib/kovelamiru-standby/minutes.txt": "The minutes that desk-standby has fetched.",
 }
 TOOLS = {
-    "desk-peer": "of two machines with a Secure Boot desk, lets one serve it",
     "desk-publish": "publishes what a Secure Boot desk decided",
     "desk-standby": "keeps a copy of a Secure Boot desk",
     "kovelamiru-mirror": "mirrors what a Secure Boot desk publishes",
@@ -211,7 +210,7 @@ def operate_page(date, version):
     """The operator's chapters."""
     parts = [
         ("DESCRIPTION", roff(OPERATE)),
-        *of_readme("The service", "Who may connect", "Backup", "A standby", "Two machines"),
+        *of_readme("The service", "Who may connect", "Backup", "A standby", "A cluster"),
         *of_readme("What makes a desk grow", "A proxy in front", "People with certificates"),
         *of_readme("Publishing"),
         ("AUDITS", document("AUDIT")),

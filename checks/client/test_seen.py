@@ -1,5 +1,5 @@
-"""deskctl says where what a caller saw of a desk last is gone: one that was restored, or the other
-of two machines."""
+"""deskctl says where what a caller saw of a desk last is gone: one that was restored, or a promoted
+standby."""
 from __future__ import annotations
 
 from typing import Callable

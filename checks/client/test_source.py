@@ -15,10 +15,9 @@ PACKAGE = ROOT / "python" / "kovelamiru"
 MODULES = sorted(PACKAGE.rglob("*.py"))
 PACKED = [ROOT / "python" / "__main__.py", *(ROOT / "client").glob("*.py")]
 OTHERS = [*PACKED, *(ROOT / "packaging").glob("*.py"), ROOT / "client" / "deskctl",
-          ROOT / "packaging" / "desk-peer", ROOT / "packaging" / "desk-publish",
-          ROOT / "packaging" / "desk-standby"]
+          ROOT / "packaging" / "desk-publish", ROOT / "packaging" / "desk-standby"]
 # The programs, none of which takes a module of another, and which no other module takes.
-PROGRAMS = ("deskctl", "publish", "standby", "peer")
+PROGRAMS = ("deskctl", "publish", "standby")
 
 
 def name_of(path: Path) -> str:

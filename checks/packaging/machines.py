@@ -14,7 +14,6 @@ from checks.support.steps import Step
 from checks.support.waits import until
 
 STATE = f"/var/lib/{NAME}"
-MARK = "/run/kovelamiru-peer/serves"
 READS = Step(got("olga", "/level"), text("sbat,1,2021030218\n"))
 AS_DESK = ("runuser", "-u", NAME, "--")
 # Without an answer it says nothing.

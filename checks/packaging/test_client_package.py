@@ -12,8 +12,8 @@ from checks.support.tools import ran
 
 # What of python/ is no part of deskctl.
 OTHERS = (
-    "publish", "checkpoints.py", "mirror.py", "fetch.py", "peer.py", "programs.py", "reader.py",
-    "standby.py", "shim.py", "terms.py", "wire", "__pycache__", "README.md",
+    "publish", "checkpoints.py", "mirror.py", "fetch.py", "programs.py", "reader.py", "standby.py",
+    "shim.py", "wire", "__pycache__", "README.md",
 )
 
 

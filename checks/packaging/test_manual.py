@@ -11,14 +11,14 @@ from checks.packaging.conftest import NAME, Package, quiet
 from checks.support.tools import ROOT, ran
 from checks.support.wire import REFUSALS
 
-TOOLS = ("desk-peer", "desk-publish", "desk-standby", "kovelamiru-mirror")
+TOOLS = ("desk-publish", "desk-standby", "kovelamiru-mirror")
 PAGES = (
     "man1/desk.1", "man7/desk-http.7", "man1/deskctl.1", "man7/desk-operate.7", "man1/desk-demo.1",
     *(f"man1/{name}.1" for name in TOOLS),
 )
 PARTS = ("SUBCOMMANDS", "INPUT AND OUTPUT", "EXIT STATUS", "DIAGNOSTICS")
 CHAPTERS = (
-    "THE SERVICE", "WHO MAY CONNECT", "BACKUP", "A STANDBY", "TWO MACHINES", "PUBLISHING", "AUDITS",
+    "THE SERVICE", "WHO MAY CONNECT", "BACKUP", "A STANDBY", "A CLUSTER", "PUBLISHING", "AUDITS",
     "RUNBOOKS", "OTHER TOOLS", "FILES",
 )
 COMPLETED = """

@@ -146,7 +146,7 @@ def test_each_script_is_one_of_sh(package: Package) -> None:
         quiet("sh", "-n", script)
 
 
-@pytest.mark.parametrize("tool", ["desk-peer", "desk-publish", "desk-standby", "kovelamiru-mirror"])
+@pytest.mark.parametrize("tool", ["desk-publish", "desk-standby", "kovelamiru-mirror"])
 def test_a_tool_beside_the_program_runs_from_its_place(package: Package, tool: str) -> None:
     assert ran(package.root / "usr/bin" / tool, "--help")
 

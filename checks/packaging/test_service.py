@@ -19,8 +19,8 @@ from checks.support.tools import ROOT, end_with_parent, ran
 from checks.support.waits import until
 
 UNITS = "usr/lib/systemd/system"
-TIMED = ("kovelamiru-fence", "kovelamiru-mirror", "kovelamiru-publish", "kovelamiru-standby")
-SERVICES = ("kovelamiru-desk", "kovelamiru-peer", *TIMED)
+TIMED = ("kovelamiru-mirror", "kovelamiru-publish", "kovelamiru-standby")
+SERVICES = ("kovelamiru-desk", *TIMED)
 USERS = (NAME, "kovelamiru-mirror", "kovelamiru-publish")
 CAPABILITY = "net_bind_service"
 
@@ -52,15 +52,15 @@ def test_each_user_is_made_with_a_folder(package: Package, room: Path) -> None:
 @pytest.fixture
 def units(package: Package, room: Path) -> list[Path]:
     """The units, with the programs of the unpacked package."""
-    for path in sorted((package.root / UNITS).iterdir()):
-        text = re.sub(
-            r"(?m)^(Exec(?:Start|Condition)=\+?)/", rf"\1{package.root}/", path.read_text()
-        )
-        (room / path.name).write_text(text)
-    found = sorted(room.iterdir())
-    timers = [f"{name}.timer" for name in TIMED]
-    assert {one.name for one in found} == {*timers, *(f"{name}.service" for name in SERVICES)}
-    return found
+    shutil.copytree(package.root / UNITS, room, dirs_exist_ok=True)
+    assert {one.name for one in room.iterdir()} == {
+        "kovelamiru-.service.d", *(f"{name}.timer" for name in TIMED),
+        *(f"{name}.service" for name in SERVICES),
+    }
+    for path in room.glob("*.service"):
+        text = re.sub("(?m)^ExecStart=/", f"ExecStart={package.root}/", path.read_text())
+        path.write_text(text)
+    return sorted(one for one in room.iterdir() if one.is_file())
 
 
 @pytest.mark.if_there("systemd-analyze")
@@ -78,25 +78,6 @@ def test_systemd_finds_nothing_wrong_with_the_units(units: list[Path]) -> None:
 def test_the_exposure_of_each_service_is_two_at_most(units: list[Path]) -> None:
     for unit in (one for one in units if one.suffix == ".service"):
         ran("systemd-analyze", "security", "--offline=yes", "--threshold=20", "--no-pager", unit)
-
-
-def test_each_start_asks_whether_it_may_serve_and_each_end_takes_its_mark_away(
-    package: Package,
-) -> None:
-    """The mark is where desk-peer puts it, and nginx shows it."""
-    lines = service(package).splitlines()
-    assert f"ExecCondition=+/usr/lib/{NAME}/may-serve" in lines
-    assert "ExecStopPost=-+/bin/rm -f /run/kovelamiru-peer/serves" in lines
-    for script in ("may-serve", "fence"):
-        assert (package.root / f"usr/lib/{NAME}/{script}").stat().st_mode & 0o111 == 0o111
-    fence = package.text(f"{UNITS}/kovelamiru-fence.service").splitlines()
-    assert "ExecCondition=/usr/bin/desk-peer fenced $PEER" in fence
-    assert f"ExecStart=+/usr/lib/{NAME}/fence" in fence
-    shown = package.text(f"usr/share/{NAME}/nginx-desk.conf")
-    for path in ("/run/kovelamiru-peer/serves", "/var/lib/kovelamiru-peer/term"):
-        assert f"alias {path};" in shown
-    own = ran(package.root / "usr/bin/desk-peer", "--help").decode()
-    assert "(/run/kovelamiru-peer)" in own and "(/var/lib/kovelamiru-peer)" in own
 
 
 # ---- its port: who takes it, and who connects

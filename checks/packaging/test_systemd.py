@@ -8,9 +8,10 @@ from typing import Iterator
 import pytest
 
 from checks.packaging.conftest import NAME, Package
-from checks.packaging.machines import AS_DESK, MARK, READS, STATE, Machine
+from checks.packaging.machines import AS_DESK, READS, STATE, Machine
 from checks.support.images import OWNER, sha256
 from checks.support.steps import Step, named, proposes
+from checks.support.tools import ROOT
 from checks.support.waits import until
 
 pytestmark = [
@@ -18,7 +19,6 @@ pytestmark = [
     pytest.mark.if_there("root", "network", "dpkg", "ip", "ss", "nsenter", "systemd", "namespaces"),
 ]
 COPIES = f"/var/backups/{NAME}"
-FENCE, OTHER = "kovelamiru-fence", "http://127.0.0.1:8881"
 # With what the kernel is told of the process: its one capability is that for its port.
 LIMITS = {
     "CapEff": "0000000000000400", "CapBnd": "0000000000000400", "NoNewPrivs": "1", "Seccomp": "2",
@@ -61,10 +61,8 @@ def test_what_was_acknowledged_is_there_after_each_end_and_the_service_begins_ag
     serving.run("kill", "-9", str(before))
     serving.answers(proposed(1))
     assert serving.number() not in (0, before)
-    serving.writes(MARK, "")
     serving.run("systemctl", "stop", NAME)
     assert serving.told(NAME, "ActiveState", "Result") == ["inactive", "success"]
-    assert not serving.has(MARK)
     serving.changed("Environment=COUNT=1")
     serving.run("systemctl", "start", NAME)
     for number in (1, 2):
@@ -120,28 +118,16 @@ def test_a_desk_that_is_in_use_is_tried_until_it_is_free(serving: Machine) -> No
     assert serving.told(NAME, "ExecMainStatus")[0] == "0"
 
 
-def test_a_fence_that_asked_before_a_promotion_stops_no_desk(machine: Machine) -> None:
-    """Files that a server shows stand for the other machine. The fence's unit stops between its
-    question and its end."""
-    machine.founds([])
-    machine.run("install", "-d", "-o", NAME, "-g", NAME, "/var/lib/kovelamiru-peer")
-    machine.writes("/etc/default/kovelamiru-peer", f'PEER="--url {OTHER}"\n')
-    machine.writes("/run/other/term", "1\n")
-    serves = ("http.server", "--bind", "127.0.0.1", "-d", "/run/other", "8881")
-    machine.run("systemd-run", "--unit=other", "/usr/bin/python3", "-m", *serves)
-    until(30, "it serves", lambda: machine.listens("8881"))
-    waits = "ExecCondition=/bin/sh -c 'until [ -e /run/other/go ]; do sleep 0.1; done'"
-    machine.changed(waits, unit=FENCE)
-    machine.run("systemctl", "start", "--no-block", FENCE)
-    until(30, "it asked", lambda: "desk stops" in machine.log(FENCE), lambda: machine.log(FENCE))
-    machine.run(*AS_DESK, "desk-peer", "promote", "--url", OTHER)
-    machine.run("systemctl", "start", NAME)
-    machine.writes("/run/other/go", "")
-    machine.becomes("inactive", unit=FENCE)
-    assert machine.told(NAME, "ActiveState", "NRestarts") == ["active", "0"]
-    machine.writes("/run/other/term", "3\n")
-    machine.starts(FENCE)
-    assert machine.state() == "inactive"
+def test_a_desk_that_hangs_is_ended_and_begins_again(serving: Machine) -> None:
+    """By the question of packaging/cluster, which is soon asked, and waits for five seconds."""
+    unit = (ROOT / "packaging/cluster/kovelamiru-answers.service").read_text()
+    unit = unit.replace("sleep 30", "sleep 1").replace("--max-time 120", "--max-time 5")
+    serving.writes("/etc/systemd/system/kovelamiru-answers.service", unit)
+    before = serving.number()
+    serving.run("kill", "-STOP", str(before))
+    serving.run("systemctl", "start", "kovelamiru-answers")
+    serving.answers(READS)
+    assert serving.number() not in (0, before)
 
 
 def test_an_upgrade_copies_the_desk_and_it_goes_on_and_a_removal_leaves_it(

@@ -31,7 +31,7 @@ shift
 for unit in "$@"; do
     case $what in
         start)
-            [ ! -e "$ROOM/no-answer" ] || exit 1
+            [ ! -e "$ROOM/no-start" ] || exit 1
             echo active > "$ROOM/units/$unit"
             ;;
         stop) rm -f "$ROOM/units/$unit" ;;
@@ -227,18 +227,11 @@ def test_nginx_reads_the_new_file_unless_its_files_are_wrong(machine: Machine) -
     machine.ends(words, TRY_RESTART, "nginx -t -q", says="reload it once")
 
 
-def test_an_upgrade_is_whole_where_the_other_of_two_machines_does_not_answer(
-    machine: Machine,
-) -> None:
-    """systemd goes on trying. On a machine alone a start that fails is a fault."""
+def test_a_desk_that_does_not_begin_again_is_a_fault_of_the_upgrade(machine: Machine) -> None:
     machine.unit(DESK)
     machine.ends(UPGRADE, f"stop {DESK}")
-    machine.marked("no-answer")
+    machine.marked("no-start")
     machine.ends(("postinst", "configure", "0.0.9"), f"start {DESK}", status=1)
-    (machine.own / "etc/default").mkdir(parents=True)
-    (machine.own / "etc/default/kovelamiru-peer").touch()
-    machine.configured(f"start {DESK}")
-    machine.forgets()
 
 
 # ---- the package goes, and comes again
@@ -251,7 +244,7 @@ def test_a_removal_stops_all_and_names_the_sites_of_nginx(machine: Machine) -> N
     (sites / "other").write_text("server { }\n")
     mirrors = "kovelamiru-mirror.timer kovelamiru-mirror.service"
     publishes = "kovelamiru-publish.timer kovelamiru-publish.service"
-    units = f"kovelamiru-fence.timer {publishes} {FOLLOWS} {mirrors} {DESK}"
+    units = f"{publishes} {FOLLOWS} {mirrors} {DESK}"
     named = f"so take them out: {sites}/desk \n"
     machine.ends(("prerm", "remove"), f"stop {units}", says=named)
 
@@ -266,7 +259,6 @@ def test_a_purge_takes_the_token_and_the_links_of_units_and_no_desk(machine: Mac
     for link in (
         f"multi-user.target.wants/{DESK}", "timers.target.wants/kovelamiru-publish.timer",
         f"timers.target.wants/{STANDBY}", "timers.target.wants/kovelamiru-mirror.timer",
-        "timers.target.wants/kovelamiru-fence.timer",
     ):
         path = machine.own / "etc/systemd/system" / link
         path.parent.mkdir(parents=True, exist_ok=True)

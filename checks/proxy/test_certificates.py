@@ -86,11 +86,6 @@ def test_a_page_of_another_site_is_told_nothing(people: Site) -> None:
         assert (found("/", site, "document"), found("/level", site, "empty")) == (200, 200)
 
 
-def test_a_closed_site_for_people_answers_none(people: Site) -> None:
-    (people.room / "kovelamiru-people.closed").touch()
-    assert people.show("olga", "/level").status == 503
-
-
 def test_a_token_has_no_effect_beside_a_certificate(people: Site) -> None:
     """However its field is written; and the log has the certificate."""
     fields = ("Desk-Token", "desk-token", "DESK-TOKEN", "Desk_Token")
@@ -211,6 +206,23 @@ def test_a_machine_reads_what_is_published_and_nothing_else(machine: Site) -> No
     expect(machine.kept(), before, "the time of the last file of a body")
 
 
+def test_a_closed_site_for_people_answers_machines_alone(machine: Site) -> None:
+    """A machine reads what it read before: a standby follows to the last call."""
+    (machine.room / "kovelamiru-people.closed").touch()
+    before, longest = machine.kept(), machine.of_size("longest", MOST_IMAGE)
+    for path in ("/level", "/dbx", "/minutes/1", "/", "/page/main.js"):
+        assert machine.show("olga", path).status == 503, path
+        assert machine.show("stan", path).status == 403, path
+    for who, status in (("olga", 503), ("robot", 403)):
+        words = (*AT_ONCE, "-H", "Desk-Key: k", "--data-binary", longest)
+        assert machine.show(who, "/dbx/digests", *words).status == status, who
+    expect(machine.kept(), before, "the time of the last file of a body")
+    for path in OTHERS:
+        assert machine.show("robot", path, "--path-as-is").status == 403, path
+    said = f"^calls {machine.minutes().count(10)}$"
+    read_by(machine, 0, said, *FOLLOWS, "--program", machine.desk.path)
+
+
 def test_a_backup_of_the_machines_is_not_read(machine: Site) -> None:
     at = machine.room / "kovelamiru-desk.machines"
     at.rename(machine.room / "kovelamiru-desk.machines.bak")
@@ -261,6 +273,10 @@ def test_desk_standby_tells_a_fault_from_a_refusal(machine: Site) -> None:
     says = "^desk-standby: refused minutes: line 3 of copied isn't the desk's"
     read_by(machine, 1, says, *FOLLOWS, "--program", "true")
     expect(copied.read_bytes(), other, "the minutes of another desk")
+    machine.lists("machines")
+    machine.nginx.reload()
+    says = "^desk-standby: GET /minutes/3: 403, Forbidden$"
+    read_by(machine, 3, says, *FOLLOWS, "--program", "true")
     os.chmod(machine.room / "robot.key", 0o644)
     says = "^desk-standby: others can read the private key robot.key: chmod 600$"
     read_by(machine, 2, says, *FOLLOWS, "--program", "true")

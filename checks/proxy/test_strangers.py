@@ -94,6 +94,11 @@ def test_the_log_has_no_digest_that_is_searched_for(site: Site) -> None:
 
 
 def test_a_closed_site_answers_nobody_and_keeps_nothing(site: Site) -> None:
+    """At once, also where nginx remembers which files there are."""
+    site.nginx.stop()
+    site.nginx.more += " open_file_cache max=1000; open_file_cache_errors on;"
+    site.nginx.start()
+    expect(site.ask("olga", "/level")[:2], (200, LEVEL), "an open site")
     closed, before = site.room / "kovelamiru-desk.closed", site.kept()
     closed.touch()
     for path in ("/", "/page/main.js", "/level"):

@@ -27,10 +27,6 @@ class Shown:
             return iter([b"".join(self.lines[first : first + 1000])])
         return iter([self.files[path]]) if path in self.files else None
 
-    def reads(self, term: int) -> None:
-        """nginx shows it as that of this term."""
-        self.files["/term"] = b"%d\n" % term
-
 
 class Standby:
     """A copy in the folder of a place."""

@@ -125,11 +125,3 @@ def test_a_checkpoint_that_the_key_did_not_sign_stops_nothing(
     assert "calls 11\n" in standby.follows(shown, 0, says, *words)
     path.unlink()
     standby.follows(shown, 0, f"nothing is held against {path}: ", *words)
-
-
-def test_the_old_machine_of_two_is_refused(standby: Standby, shown: Shown) -> None:
-    for term in (1, 2, 2):
-        shown.reads(term)
-        standby.follows(shown, 0, "calls 11\n")
-    shown.reads(1)
-    standby.follows(shown, 1, "has 1, and 2 was seen: another machine has been promoted, and this")

@@ -8,6 +8,7 @@ from pathlib import Path
 from typing import Callable
 
 from checks.runbooks.machine import DESK, Machine
+from checks.runbooks.standby import follows
 from checks.support.images import OWNER, authenticode, sha256
 from checks.support.ports import listening
 from checks.support.says import expect, fail
@@ -156,39 +157,29 @@ def leaks(machine: Machine, name: str) -> None:
     machine.writes("etc/nginx/kovelamiru-desk.leaked", line)
 
 
-def followed(machine: Machine, desk: Path) -> bytes:
-    """What the standby says that follows the desk into this file."""
-    token = machine.writes("other/token", f"{machine.tokens['olga']}\n", DESK)
-    room, url = machine.room, f"http://127.0.0.1:{machine.port}"
-    done = subprocess.run(
-        [room / "bin/desk-standby", desk, room / "standby/minutes.txt", "--owner", OWNER, "--url",
-         url, "--token-file", token, "--program", machine.program],
-        capture_output=True, timeout=300, check=False, **machine.account(DESK),
-    )
-    token.unlink()
-    if done.returncode or not done.stdout.startswith(b"calls 25\n"):
-        fail(f"the standby: {done.returncode} {(done.stdout + done.stderr).decode()}")
-    return bytes(done.stdout)
-
-
-def machine_lost(machine: Machine) -> None:
-    """A standby followed; then ann's last call was acknowledged, and the machine burnt. What is
-    left is the standby's, with a list of nginx's."""
+def stands_by(machine: Machine) -> Machine:
+    """Another machine serves the desk, and this one follows it as a standby and a witness. ann's
+    last call comes after the standby's last run. The other machine."""
     leaks(machine, "raul")
     worked(machine)
     newest(machine)
-    other = machine.room / "other"
-    other.mkdir()
-    machine.owned(other, DESK, 0o700)
+    old = machine.moves_out()
+    follows(machine, old)
+    old.does("ann", "/requests", plain(5), Desk_Title="grub2 2.12-5")
+    return old
+
+
+def moved(machine: Machine) -> None:
+    stands_by(machine)
+
+
+def machine_lost(machine: Machine) -> None:
+    """It burnt; a mirror has what was published."""
+    old = stands_by(machine)
+    told = (machine.room / "journal.desk-standby").read_text().splitlines(keepends=True)[-5:]
     (machine.room / "srv/mirror").mkdir()
-    for _ in range(2):
-        machine.writes("srv/mirror/audit.txt", followed(machine, other / "desk.db"), mode=0o644)
-    machine.does("ann", "/requests", plain(5), Desk_Title="grub2 2.12-5")
-    machine.keys -= 1
-    machine.burn()
-    (machine.room / "state").rename(machine.room / "burnt")
-    other.rename(machine.room / "state")
-    machine.had_before(machine.room / "burnt")
+    machine.writes("srv/mirror/audit.txt", "".join(told), mode=0o644)
+    old.burn()
 
 
 def leaked(machine: Machine) -> None:
@@ -206,8 +197,8 @@ def lost(machine: Machine) -> None:
 
 BEFORE: dict[str, Step] = {
     "embargo": embargo, "leaked-token": leaked, "full-disk": full_disk, "full-desk": full_desk,
-    "restore": restore, "machine-lost": machine_lost, "new-officer": worked, "lost-officer": lost,
-    "publishing": worked,
+    "restore": restore, "machine-lost": machine_lost, "machine-moved": moved,
+    "new-officer": worked, "lost-officer": lost, "publishing": worked,
 }
 
 # ---- what holds beside what is printed
@@ -241,14 +232,19 @@ def same_again(machine: Machine) -> None:
 
 
 def repeated(machine: Machine) -> None:
-    """What had been answered is repeated under its keys: the last call is made, and one that the
-    standby has takes effect once. A token that leaked stays refused."""
+    """What had been answered is repeated under its keys: the last call is made or, after a move,
+    there already, and one that the standby had takes effect once. A token that leaked stays
+    refused. What the standby signed is shown."""
+    assert machine.old
     status, _ = machine.asks("raul", "/level", port=machine.proxy)
     expect(status, 401, "a token that leaked before the machine was lost")
     machine.does("ann", "/requests", plain(5), Desk_Title="grub2 2.12-5")
     machine.keys -= 2
     machine.does("ann", "/requests", plain(4), Desk_Title="grub2 2.12-4")
-    shows_what(machine, machine.room / "burnt" / "desk.db")
+    shown = machine.asks("ann", "/witness/checkpoint.txt", port=machine.proxy)
+    expect(shown, (200, (machine.room / "witness/checkpoint.txt").read_bytes()), "the checkpoint")
+    (machine.old.room / "root").chmod(0o711)
+    shows_what(machine, machine.old.room / "root" / "desk-before" / "desk.db")
 
 
 def nobodys(machine: Machine) -> None:
@@ -293,4 +289,5 @@ DURING: dict[str, Step] = {"full-desk": never_allowed}
 AFTER: dict[str, Step] = {
     "full-desk": judged, "leaked-token": refused, "lost-officer": refused, "publishing": nobodys,
     "restore": same_again, "machine-lost": repeated,
+    "machine-moved": repeated,
 }

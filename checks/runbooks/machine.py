@@ -31,7 +31,7 @@ DESK, PUBLISH = "kovelamiru-desk", "kovelamiru-publish"
 ACCOUNTS = [DESK, PUBLISH, *PEOPLE, "nadia", "rosa"]
 FOLDERS = {
     "state": (0o700, DESK), "standby": (0o700, DESK), "publish": (0o755, PUBLISH),
-    "peer": (0o755, DESK), "run": (0o755, DESK),
+    "witness": (0o755, DESK),
     "root": (0o700, ""), "tmp": (0o1777, ""),
     **dict.fromkeys(
         ("bin", "etc/default", "etc/nginx/sites-enabled", "srv", "home", "nginx", "examples"),
@@ -70,14 +70,14 @@ def replaced(text: str, names: dict[str, str]) -> str:
 
 
 class Machine:
-    """`told` is the SHA-256 that somebody read out last; `old` is another machine, of two with one
-    desk."""
+    """`told` is the SHA-256 that somebody read out last; this is the standby of `old`, if it is
+    one."""
 
     def __init__(self, program: Path, room: Path) -> None:
         self.program, self.room = str(program), room / "machine"
         self.users, self.repository = accounts(room), reachable(room)
-        self.held = [Held() for _ in range(4)]
-        self.port, self.proxy, self.back, self.counted = (one.port for one in self.held)
+        self.held = [Held() for _ in range(5)]
+        self.port, self.proxy, self.back, self.counted, self.own = (one.port for one in self.held)
         self.shells: dict[str, Shell] = {}
         self.tokens: dict[str, str] = {}
         self.keys, self.told = 0, ""
@@ -92,7 +92,7 @@ class Machine:
             site: f"http://127.0.0.1:{self.proxy}", f"{site}:8444": f"http://127.0.0.1:{self.back}",
             f"{var}-desk": f"{own}/state", f"{var}-publish": f"{own}/publish",
             f"{var}-standby": f"{own}/standby", "/var/log/nginx": f"{own}/nginx",
-            f"{var}-peer": f"{own}/peer", "/run/kovelamiru-peer": f"{own}/run",
+            f"{var}-witness": f"{own}/witness",
             "/usr/share/doc/kovelamiru-desk/examples": f"{own}/examples",
             **{f"/{name}/": f"{own}/{name}/" for name in ("etc", "root", "srv", "tmp")},
         }
@@ -105,9 +105,6 @@ class Machine:
         for name, account in (("as_desk", DESK), ("as_publish", PUBLISH)):
             own[name] = RUNS_AS.format(self.users[account]) if self.users else ""
         self.script("systemctl", SYSTEMCTL.format(**own))
-        condition = (self.repository / "packaging/may-serve").read_text()
-        self.script("may-serve", condition.replace("/etc/default", f"{self.room}/etc/default")
-                    .replace("systemctl", f"{self.room}/bin/systemctl"))
         self.script("supervise", SUPERVISE.format(program=self.program, **own))
         self.script("listens", LISTENS)
         change = RUNS_AS.format('"$(id -u "$user")"') if self.users else ""
@@ -116,8 +113,7 @@ class Machine:
             self.script("chown", "#!/bin/sh\n")
         # `journalctl -t PROGRAM -n LINES -o cat`
         self.script("journalctl", f'#!/bin/sh\ntail -n "$4" "{self.room}/journal.$2"\n')
-        for path in ("client/deskctl", "packaging/desk-peer", "packaging/desk-publish",
-                     "packaging/desk-standby"):
+        for path in ("client/deskctl", "packaging/desk-publish", "packaging/desk-standby"):
             (self.room / "bin" / Path(path).name).symlink_to(self.repository / path)
         (self.room / "bin" / "desk").symlink_to(self.program)
 
@@ -209,40 +205,37 @@ class Machine:
         (self.room / "supervise.pid").unlink()
         until(60, "the desk is gone", lambda: not listening(self.port))
 
-    def had_before(self, state: Path) -> None:
-        """The old machine, with these files of the desk; this one is its standby."""
+    def moves_out(self) -> Machine:
+        """Its desk is another machine's now, which serves it; it has none."""
+        self.system("stop", "kovelamiru-desk")
         (self.room.parent / "old").mkdir()
-        self.old = Machine(Path(self.program), self.room.parent / "old")
-        for file in state.iterdir():
-            self.old.writes(f"state/{file.name}", file.read_bytes(), DESK)
-        self.old.paired(self, 1)
-        self.paired(self.old, 0)
-
-    def paired(self, other: Machine, term: int) -> None:
-        """It asks the other one's nginx before its desk serves."""
-        options = f"--url http://127.0.0.1:{other.proxy} --patience 0"
-        for name, at in (("state", "peer"), ("run", "run"), ("followed", "standby/none")):
-            options += f" --{name} {self.room}/{at}"
-        self.writes("etc/default/kovelamiru-peer", f"PEER='{options}'\n", mode=0o644)
-        self.writes("peer/term", f"{term}\n", mode=0o644)
+        self.old = old = Machine(Path(self.program), self.room.parent / "old")
+        old.tokens, old.keys = self.tokens, self.keys
+        for file in (self.room / "state").iterdir():
+            old.writes(f"state/{file.name}", file.read_bytes(), DESK)
+            file.unlink()
+        old.start_proxy()
+        old.system("start", "kovelamiru-desk")
+        return old
 
     # ---- nginx
 
-    def site(self, name: str) -> str:
-        """A site of packaging/ without its TLS, at this machine's ports."""
+    def site(self, name: str, tls: str = "") -> str:
+        """A site of packaging/ at this machine's ports, without its TLS, or with ` ssl`."""
         site = (self.repository / "packaging" / name).read_text()
         for port, here in ((880, self.port), (881, self.counted)):
             site = site.replace(f"127.0.0.1:{port};", f"127.0.0.1:{here};")
-        site = re.sub(r"^ *(ssl_|listen \[).*\n", "", site, flags=re.M)
-        for port, here in ((443, self.proxy), (8444, self.back)):
-            site = site.replace(f"listen {port} ssl;", f"listen 127.0.0.1:{here};")
+        gone = r"^ *listen \[.*\n" if tls else r"^ *(ssl_|listen \[).*\n"
+        site = re.sub(gone, "", site, flags=re.M)
+        for port, here in ((443, self.proxy), (8444, self.back), (8443, self.own)):
+            site = site.replace(f"listen {port} ssl;", f"listen 127.0.0.1:{here}{tls};")
         site = site.replace("include /usr/share/kovelamiru-desk/", f"include {self.room}/nginx/")
         return re.sub("/var/log/nginx|/etc/", lambda found: self.paths[found[0]], site)
 
     def start_proxy(self) -> None:
         folder = self.room / "nginx"
         part = (self.repository / "packaging/nginx-desk.conf").read_text()
-        shown = {path: here for path, here in self.paths.items() if path.endswith("-peer")}
+        shown = {path: here for path, here in self.paths.items() if path.endswith("-witness")}
         (folder / "nginx-desk.conf").write_text(replaced(part, shown))
         (folder / "site.conf").write_text(self.site("nginx.conf"))
         closed = self.room / "examples" / "nginx-maintenance.conf"

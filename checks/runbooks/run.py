@@ -16,10 +16,14 @@ from checks.support.typed import Command, commands, section
 
 
 def page_of(name: str) -> list[Command]:
-    """The commands of a page; those of `publishing` are the first lines to be typed of that section
-    of packaging/README.md."""
+    """The commands of a page, of which `machine-lost` has the lost machine, and `machine-moved` the
+    move; those of `publishing` are the first lines to be typed of that section of
+    packaging/README.md."""
     if name != "publishing":
-        return commands((ROOT / "packaging/runbooks" / f"{name}.md").read_text())
+        page = ROOT / "packaging/runbooks" / f"{name.replace('-moved', '-lost')}.md"
+        other = {"machine-lost": "It still answers: a move",
+                 "machine-moved": "It is lost, or hangs"}.get(name, "")
+        return commands(page.read_text().replace(section(page, other), ""))
     block = section(ROOT / "packaging/README.md", "Publishing").split("\n    ", 1)[1]
     typed = block.split("\n\n", 1)[0].replace("\n    ", "\n").replace("OWNER", OWNER)
     return [Command("root", typed, ["added publisher"])]

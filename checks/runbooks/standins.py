@@ -3,26 +3,40 @@
 SYSTEMCTL = """\
 #!/bin/sh -e
 # In place of systemd: the desk's service with its Restart=always, nginx's reload and restart, the
-# publication.
+# publication, a standby's run.
+# credential FROM FOLDER COMMAND..: as LoadCredential does, for the account that the command changes
+# to, whose folder it is.
+credential() {{
+    from=$1 folder=$2
+    shift 2
+    rm -rf "{room}/credentials"
+    mkdir -m 711 "{room}/credentials"
+    "$@" sh -c 'umask 077; cat > "$1/credential"' sh "$folder" < "$from"
+    mv "$folder/credential" "{room}/credentials"
+    export CREDENTIALS_DIRECTORY="{room}/credentials"
+}}
+fails() {{
+    echo "Job for $1 failed because the control process exited with error code." >&2
+    echo "See \\"systemctl status $1\\" and \\"journalctl -xeu $1\\" for details." >&2
+    exit 1
+}}
 case "$*" in
     'start kovelamiru-desk' | 'enable --now kovelamiru-desk' | 'restart kovelamiru-desk')
         [ "$1" != restart ] || "$0" stop kovelamiru-desk
-        # (a start that its condition skips is no fault)
-        "{bin}/may-serve" 2>> "{room}/journal.may-serve" || exit 0
         setsid "{bin}/supervise" > /dev/null 2>&1 < /dev/null &
         until "{bin}/listens" {port}; do sleep 0.02; done
         ;;
-    'stop kovelamiru-desk')
-        kill "$(cat "{room}/supervise.pid")"
+    'stop kovelamiru-desk' | 'disable --now kovelamiru-desk kovelamiru-publish.timer')
+        [ ! -e "{room}/supervise.pid" ] || kill "$(cat "{room}/supervise.pid")"
         while "{bin}/listens" {port} || [ -e "{room}/supervise.pid" ]; do sleep 0.02; done
-        rm -f "{room}/run/serves"
         ;;
-    'start kovelamiru-peer.service')
-        . "{room}/etc/default/kovelamiru-peer"
-        {as_desk} "{bin}/desk-peer" start $PEER 2>> "{room}/journal.desk-peer" ||
-            {{ status=$?; echo $status > "{room}/peer.status"; exit 1; }}
+    'start kovelamiru-standby')
+        . "{room}/etc/default/kovelamiru-standby"
+        credential "{room}/etc/kovelamiru-standby.key" "{room}/standby" {as_desk}
+        {as_desk} "{bin}/desk-standby" "{room}/state/desk.db" "{room}/standby/minutes.txt" \\
+            --cert-key "{room}/credentials/credential" $STANDBY \\
+            >> "{room}/journal.desk-standby" 2>&1 || fails kovelamiru-standby.service
         ;;
-    'show -P ExecMainStatus kovelamiru-peer.service') cat "{room}/peer.status" ;;
     'is-active kovelamiru-desk')
         if [ -e "{room}/supervise.pid" ]; then echo active; else echo inactive; exit 3; fi
         ;;
@@ -36,23 +50,13 @@ case "$*" in
         for worker in $workers; do while [ -e "/proc/$worker/exe" ]; do sleep 0.02; done; done
         ;;
     'enable --now kovelamiru-publish.timer' | 'disable --now kovelamiru-standby.timer') ;;
-    'disable kovelamiru-desk') ;;
+    'stop kovelamiru-standby' | 'reset-failed kovelamiru-standby*') ;;
     'start kovelamiru-publish')
         . "{room}/etc/default/kovelamiru-publish"
-        # As LoadCredential does.
-        rm -rf "{room}/credentials"
-        mkdir -m 711 "{room}/credentials"
-        {as_publish} sh -c 'umask 077; cat > "{room}/publish/token"' \\
-            < "{room}/etc/kovelamiru-publish.token"
-        mv "{room}/publish/token" "{room}/credentials/token"
-        if ! CREDENTIALS_DIRECTORY="{room}/credentials" {as_publish} "{bin}/desk-publish" \\
-            "{room}/publish/published" --token-file "{room}/credentials/token" $PUBLISH \\
-            >> "{room}/journal.desk-publish" 2>&1; then
-            unit=kovelamiru-publish.service
-            echo "Job for $unit failed because the control process exited with error code." >&2
-            echo "See \\"systemctl status $unit\\" and \\"journalctl -xeu $unit\\" for details." >&2
-            exit 1
-        fi
+        credential "{room}/etc/kovelamiru-publish.token" "{room}/publish" {as_publish}
+        {as_publish} "{bin}/desk-publish" "{room}/publish/published" --token-file \\
+            "{room}/credentials/credential" $PUBLISH >> "{room}/journal.desk-publish" 2>&1 ||
+            fails kovelamiru-publish.service
         ;;
     *)
         echo "checks/runbooks: no systemctl $*" >&2

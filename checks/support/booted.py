@@ -135,12 +135,3 @@ class Booted:
         self.process.communicate()
         until(20, "it is off", lambda: not Path(f"/proc/{first or 'none'}").exists())
         ran("unshare", "--mount", "sh", "-c", END, "sh", self.room, self.cgroup)
-
-
-def linked(one: Booted, other: Booted) -> None:
-    """A line between them, `line` on each: 10.9.0.1 and 10.9.0.2."""
-    ran("ip", "link", "add", "line", "netns", one.up(), "type", "veth", "peer", "line", "netns",
-        other.up())
-    for number, machine in enumerate((one, other), 1):
-        machine.run("ip", "address", "add", f"10.9.0.{number}/24", "dev", "line")
-        machine.run("ip", "link", "set", "line", "up")

@@ -10,10 +10,9 @@ import sys
 import time
 from typing import Callable, Optional
 
-from . import terms
-from .faults import LOST, REFUSED, NoAnswer, Stop, Unreadable, broken, reason, wrong
+from .faults import LOST, NoAnswer, Stop, Unreadable, broken, reason, wrong
 from .files import Exposed, is_token, private_line
-from .http import Answer, Call, Site, Where, address
+from .http import Call, Site, Where, address
 from .minutes import is_numbered
 
 # How long a desk may take to answer, however often it is asked, and how long an answer may be: a
@@ -79,9 +78,8 @@ class Reader(Site):
         super().__init__(where, context, "" if words.cert else token_of(words.token_file), program)
         self.most_bytes = ANSWER_BYTES
 
-    def asked(self, path: str, *others: int) -> Answer:
-        """An answer of status 200, or of one of these. It is asked again where none came, or none
-        of the desk's own."""
+    def get(self, path: str) -> bytes:
+        """What the desk shows there. It is asked again where no answer came, or none of its own."""
         said = ""
         self.until = time.monotonic() + ANSWER_SECONDS
         for pause in (1, 2, 4, 8, 0):
@@ -90,8 +88,8 @@ class Reader(Site):
             except NoAnswer as lost:
                 said = str(lost)
             else:
-                if answer.status in (200, *others):
-                    return answer
+                if answer.status == 200:
+                    return answer.data()
                 said = answer.trouble()
                 if answer.status not in (429, 502, 503, 504):
                     break
@@ -99,30 +97,6 @@ class Reader(Site):
                 break
             time.sleep(pause)
         broken(f"GET {path}: {said}")
-
-    def get(self, path: str) -> bytes:
-        """What the desk shows there."""
-        return self.asked(path).data()
-
-    def same_term(self, path: str, state: str = terms.STATE) -> None:
-        """Ends the run where the term of the desk's machine is below one that was seen, which the
-        file keeps, or that of this machine. On loopback there may be no site that shows it."""
-        try:
-            found = terms.shown(self.asked("/term", 403, 404) if self.where.tls else
-                                self.once(Call("GET", "/term")))
-        except NoAnswer as fault:
-            if self.where.tls:
-                broken(f"GET /term: {fault}")
-            found = None
-        seen = terms.kept(path)
-        most = max(seen, terms.kept(f"{state}/term"))
-        if found is None and not self.where.tls:
-            return
-        if (found or 0) < most:
-            raise Stop(REFUSED, f"refused term: {self.where} has {found or 'none'}, and {most} was"
-                       " seen: another machine has been promoted, and this desk is the old one's")
-        if found and found > seen:
-            terms.keep(path, found)
 
     def lines_from(self, number: int) -> bytes:
         """The minutes from this line on, 1,000 lines at most, or none."""
@@ -161,27 +135,16 @@ def has_reader(parser: argparse.ArgumentParser, words: argparse.Namespace) -> No
         parser.error("--cert and --cert-key go together")
 
 
-def held(path: str, seconds: float) -> None:
-    """This run works alone to its end: it has the lock, which it waits for so long. A link there is
-    nobody's."""
+def held(path: str) -> None:
+    """This run works alone to its end: it has the lock. A link there is nobody's."""
     opened = os.open(path, os.O_RDWR | os.O_CREAT | os.O_NOFOLLOW | os.O_CLOEXEC, 0o600)
-    until = time.monotonic() + seconds
-    while True:
-        try:
-            return fcntl.flock(opened, fcntl.LOCK_EX | fcntl.LOCK_NB)
-        except BlockingIOError:
-            if time.monotonic() >= until:
-                raise
-        time.sleep(0.1)
+    fcntl.flock(opened, fcntl.LOCK_EX | fcntl.LOCK_NB)
 
 
-def ended(
-    program: str, lock: str, does: str, work: Callable[[], int], seconds: float = 0,
-) -> int:
-    """The status of a run that works alone, and may wait so long for another one's end. Why it
-    failed goes to standard error."""
+def ended(program: str, lock: str, does: str, work: Callable[[], int]) -> int:
+    """The status of a run that works alone. Why it failed goes to standard error."""
     try:
-        held(lock, seconds)
+        held(lock)
         return work()
     except BlockingIOError:
         status, text = LOST, f"another run is {does}"

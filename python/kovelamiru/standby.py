@@ -21,7 +21,6 @@ from .files import write_all
 from .minutes import copy_of
 from .programs import audited, public_line, signature, unsigned_by
 from .reader import Reader, add_reader, ended, has_reader
-from .terms import STATE
 
 PIECE = 1 << 20
 # So many bytes of new lines are followed at once, or a little more.
@@ -43,7 +42,6 @@ allow, such as a new officer's, are followed.
 
 The run ends with `desk-standby: refused RULE` where
 
-  term        of two machines with the desk this is the old one: another has been promoted
   minutes     the desk doesn't have the last line of MINUTES, or has fewer lines than DB
   47 Minute   a new line isn't what the rules give, or DB has another one; those before it are kept
   dbx         the desk shows another one than its minutes give, as one that was restored from an
@@ -256,8 +254,6 @@ def words_of(arguments: list[str]) -> argparse.Namespace:
         ("--sign", "KEY", "the SSH key of a witness; with --statement"),
         ("--statement", "FOLDER", "where what it signed stands")):
         parser.add_argument(name, metavar=metavar, help=text)
-    parser.add_argument("--state", metavar="PATH", default=STATE,
-                        help=f"where this machine's own term is, of two machines ({STATE})")
     parser.add_argument("--program", default="desk", help="desk(1)")
     words = parser.parse_args(arguments)
     has_reader(parser, words)
@@ -272,7 +268,6 @@ def kept_up(words: argparse.Namespace) -> int:
     opened = os.open(words.minutes, os.O_RDWR | os.O_CREAT | os.O_CLOEXEC, 0o600)
     with open(opened, "r+b") as file:
         copied = Copied(words, desk, file)
-        desk.same_term(f"{words.minutes}.term", words.state)
         check = published(words)
         copied.begins()
         for _ in range(ROUNDS):

@@ -1,5 +1,5 @@
 """What a caller saw of a desk last: it tells a desk that went on from one that lost its last calls,
-as a restored one, or the other of two machines."""
+as a restored one, or a promoted standby."""
 from __future__ import annotations
 
 import hashlib

@@ -55,7 +55,6 @@ earlier date than it had.
 Nothing is published, and the line on standard error begins with `desk-publish: refused RULE`, where
 
   audit       `desk audit` refuses the minutes, or what the desk exports doesn't follow from them
-  term        of two machines with the desk this is the old one: another has been promoted
   minutes     they don't begin with those published last: an older copy of the desk, or another desk
   witness     they don't begin with those of which a mirror has the checkpoint, signed by --key
   dbx         it lacks an entry that was published
@@ -117,13 +116,11 @@ program failed
 """
 
 
-def asked(words: argparse.Namespace, link: str) -> Found:
-    """The desk, in a file or at its URL, where it isn't the old one of two machines."""
+def asked(words: argparse.Namespace) -> Found:
+    """The desk, in a file or at its URL."""
     if words.db:
         return from_file(words.program, words.db)
-    desk = Reader(words, "desk-publish")
-    desk.same_term(f"{link}.term")
-    return from_url(desk)
+    return from_url(Reader(words, "desk-publish"))
 
 
 def publish(words: argparse.Namespace, link: str) -> str:
@@ -135,7 +132,7 @@ def publish(words: argparse.Namespace, link: str) -> str:
     swept(link, words.keep)
     if not words.public_minutes:
         hidden(link)
-    found = asked(words, link)
+    found = asked(words)
     witnessed(words, last, found)
     found, waits = judged(words, last.found if last else None, found)
     if waits:
