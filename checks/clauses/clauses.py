@@ -26,12 +26,14 @@ class Clause(NamedTuple):
 
 
 class Function(NamedTuple):
-    """A function: the type that has it or none, its name, whether others may call it."""
+    """A function: the type that has it or none, its name, whether others may call it, its clauses,
+    and its body with the braces, or none."""
 
     owner: str
     name: Token
     public: bool
     clauses: List[Clause]
+    body: Tokens
 
 
 def crates(root: str | Path = ".") -> List[str]:
@@ -91,8 +93,8 @@ def owner_of(head: Tokens) -> str:
     return name
 
 
-def clauses_at(tokens: Tokens, at: int) -> Tuple[List[Clause], int]:
-    """The clauses of a function from behind its name on, and the index after its body."""
+def clauses_at(tokens: Tokens, at: int) -> Tuple[List[Clause], Tokens, int]:
+    """The clauses of a function from behind its name on, its body, and the index after that."""
     clauses = []
     while True:
         token = tokens[at]
@@ -106,9 +108,10 @@ def clauses_at(tokens: Tokens, at: int) -> Tuple[List[Clause], int]:
         elif token in "([":
             at = end_of(tokens, at)
         elif token == "{":
-            return clauses, end_of(tokens, at)
+            end = end_of(tokens, at)
+            return clauses, tokens[at:end], end
         elif token == ";":
-            return clauses, at + 1
+            return clauses, [], at + 1
         else:
             at += 1
 
@@ -136,8 +139,8 @@ def functions(tokens: Tokens, at: int, end: int, owner: str, of_trait: bool) -> 
             at = end_of(tokens, at + 1 + (tokens[at + 1] == "!"))
         elif token == "fn":
             name = tokens[at + 1]
-            clauses, at = clauses_at(tokens, at + 2)
-            yield Function(owner, name, public or of_trait, clauses)
+            clauses, block, at = clauses_at(tokens, at + 2)
+            yield Function(owner, name, public or of_trait, clauses, block)
             public = False
         elif token in ("impl", "trait", "mod"):
             head, body = head_at(tokens, at + 1)
@@ -152,6 +155,13 @@ def functions(tokens: Tokens, at: int, end: int, owner: str, of_trait: bool) -> 
         else:
             public = public and token != ";"
             at += 1
+
+
+def functions_of(crate: str, root: str | Path = ".") -> Iterator[Function]:
+    """Each function of a crate, public or not."""
+    for path in sorted(Path(root, "crates", crate, "src").rglob("*.rt")):
+        tokens = tokens_of(plain(text_of(path)))
+        yield from functions(tokens, 0, len(tokens), "", False)
 
 
 # ---- calls
@@ -172,7 +182,7 @@ def calls_in(path: str | Path, names: Set[str]) -> Iterator[Tuple[str, Token, Li
     """Each public call of a file whose own name or whose type's is offered: the call, the token of
     its name, its clauses."""
     tokens = tokens_of(plain(text_of(path)))
-    for owner, name, public, clauses in functions(tokens, 0, len(tokens), "", False):
+    for owner, name, public, clauses, _ in functions(tokens, 0, len(tokens), "", False):
         if public and (owner or name) in names:
             yield f"{owner}::{name}" if owner else str(name), name, clauses
 

@@ -14,7 +14,7 @@ from typing import Iterator
 
 import pytest
 
-from checks.clauses.clauses import calls_of, crates
+from checks.clauses.clauses import Function, Tokens, calls_of, crates, functions_of
 from checks.support.tools import ROOT, ran
 from docs.print import lacking
 
@@ -70,6 +70,63 @@ def test_each_row_of_proved_names_clauses_of_calls_that_a_crate_offers() -> None
                 for clause in clauses or [""] if clause not in ensured
             ]
     holds(rows, missing, "row of docs/PROVED.md")
+
+
+# No program makes these calls: they stand for a machine that stops.
+OF_STOPS = {
+    "store_desk::reopen", "store_desk::restart", "store_desk::stop",
+    "store_follow::restart_after_run",
+}
+
+
+def name_of(crate: str, function: Function) -> str:
+    return "::".join([crate, *[function.owner] * bool(function.owner), function.name])
+
+
+def is_law(function: Function) -> bool:
+    """Its body does nothing, so that the call only states its clauses."""
+    return re.fullmatch(r"\{(?:let_=[^;]*;)*\}", "".join(function.body)) is not None
+
+
+def may_call(body: Tokens, at: int, function: Function) -> bool:
+    """The name at this index may mean the function: of a type it stands behind a dot or a path."""
+    before = body[at - 1] if at else ""
+    if not function.owner:
+        return before != "."
+    return before == "." or before == "::" and body[at - 2] in (function.owner, "Self", ">")
+
+
+def run_by_main(made: dict[str, list[tuple[str, Function]]]) -> set[str]:
+    """The functions that the program may run, found by names alone, from its `main` on."""
+    left = [function for crate, function in made["main"] if crate == "desk"]
+    run: set[str] = set()
+    while left:
+        body = left.pop().body
+        for at, token in enumerate(body):
+            for crate, function in made.get(token, []):
+                name = name_of(crate, function)
+                if name not in run and may_call(body, at, function):
+                    run.add(name)
+                    left.append(function)
+    return run
+
+
+def test_each_call_of_proved_is_one_that_the_program_makes_or_a_law() -> None:
+    made: dict[str, list[tuple[str, Function]]] = {}
+    for crate in [*crates(ROOT), "desk"]:
+        for function in functions_of(crate, ROOT) if not crate.startswith("test") else []:
+            made.setdefault(function.name, []).append((crate, function))
+    known = run_by_main(made) | OF_STOPS
+    known |= {
+        name_of(crate, function)
+        for found in made.values() for crate, function in found if is_law(function)
+    }
+    cited = {(number, call) for number, calls, _ in claims() for call in calls}
+    missing = [
+        f"line {number}: no program makes {call}" for number, call in sorted(cited)
+        if call not in known
+    ]
+    holds(cited, missing, "call of docs/PROVED.md")
 
 
 def test_each_clause_definition_and_sql_text_is_printed_with_its_comment() -> None:

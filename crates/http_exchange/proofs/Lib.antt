@@ -1,7 +1,6 @@
 pub mod AskLemmas
 pub mod BodyLemmas
 pub mod ClosedLemmas
-pub mod EachLemmas
 pub mod InputLemmas
 pub mod MatchLemmas
 pub mod StoreLemmas

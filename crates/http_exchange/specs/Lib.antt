@@ -1,6 +1,5 @@
 pub mod Asked
 pub mod Bodies
-pub mod Each
 pub mod Intakes
 pub mod Matching
 pub mod Refused

@@ -8,7 +8,6 @@ mod reading;
 mod responding;
 mod served;
 mod serving;
-mod serving_each;
 mod tasks;
 
 pub use intake::RequestReader;
@@ -17,4 +16,3 @@ pub use laws::{
 };
 pub use served::{Answered, HttpFault, Said, Served};
 pub use serving::serve_one;
-pub use serving_each::serve_each;

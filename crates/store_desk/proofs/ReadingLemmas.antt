@@ -23,12 +23,6 @@ pub as_given : {A B C : Type 0} (d : Result A Refusal) (P : A → B → Type 0) 
 as_given (Ok w) P Q x s each h = each w h
 as_given (Err refusal) P Q x s each h = absurd h
 
--- what is given is shown so
-pub given_as : {A B C : Type 0} (d : Result A Refusal) (P : A → B → Type 0) (Q : A → C → Type 0) (x : B) (s : C) → ((w : A) → P w x → Q w s)
-    → IsGiven d (Ok x) P → IsGiven d (Ok s) Q
-given_as (Ok w) P Q x s each h = each w h
-given_as (Err refusal) P Q x s each h = h
-
 -- ---- what came of the desk
 
 pub named_anyhow : {A : Type 0} (may : Refusal → Type 0) (closed : Bool) (given : Result A Refusal)
@@ -80,11 +74,6 @@ module _ {S : Type 0} (g : store.Ghosts S) (may : Refusal → Type 0) (old new :
     steady = λ other. it.steady (not_store {A = A} {B = B} refusal other);
     named = elim it.named [ inl is ↦ inl (wider is) | inr reopen ↦ inr reopen ];
   }
-
--- the same from a call of a name
-pub reads_refused : {S A B : Type 0} (g : store.Ghosts S) (may : Refusal → Type 0) (old new : Desk S) (refusal : Refusal)
-    → ReadsDesk {A = A} g may old new (Err refusal) → ReadsOnly {A = B} g may old new (Err refusal)
-reads_refused g may old new refusal it = reads_err g may old new may refusal (λ is. is) (of_reads g may old new (Err refusal) it)
 
 -- ---- what came of a question of a person
 

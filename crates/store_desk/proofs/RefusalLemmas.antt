@@ -1,51 +1,14 @@
--- Refusals of what was read, in the words of readings.
+-- Refusals of readings.
 use Rattle.std.proofs.Common.{◌⊎◌, inl, inr, IsTrue, false, refl, sym, subst, Result, Ok, Err}
-use Rattle.std.specs.Prelude.{◌≡◌, IfErr, IfOk, IsErrOf}
+use Rattle.std.specs.Prelude.{◌≡◌, IfErr, IsErrOf}
 use Rattle.base.specs.declared.refusal.Refusal.{Refusal}
 use Rattle.base.specs.declared.refusal.Refusal.TheVariants as refusals
-use Rattle.desk_exports.specs.Readings.{hides_impact, hides_proposal, hides_request, may_refuse, turns_away}
+use Rattle.desk_exports.specs.Readings.{hides_impact, may_refuse}
 use Rattle.desk_exports.specs.declared.reading.Reading.{Reading}
 use Rattle.desk_exports.specs.declared.reading.Reading.TheVariants as read
 use Rattle.desk_rules.specs.Foreseen.{may_foresee}
 use Rattle.store_reads.specs.Failures.{IsFailure}
-use Rattle.store_shown.specs.Telling.{IsOfficerRefusal, IsProposalRefusal, IsReaderRefusal, IsRequestRefusal}
 use Rattle.store_desk.specs.Impacts.{IsImpactRefusal}
-
-reader : (r : Refusal) → IsReaderRefusal r → IsTrue (turns_away r)
-reader r is = subst (λ x. IsTrue (turns_away x)) (sym is) refl
-
-officer : (r : Refusal) → IsOfficerRefusal r → IsTrue (turns_away r)
-officer r (inl is) = reader r is
-officer r (inr is) = subst (λ x. IsTrue (turns_away x)) (sym is) refl
-
-one_request : (r : Refusal) → IsRequestRefusal r → IsTrue (hides_request r)
-one_request r (inl is) = subst (λ x. IsTrue (hides_request x)) (sym is) refl
-one_request r (inr is) = subst (λ x. IsTrue (hides_request x)) (sym is) refl
-
-one_proposal : (r : Refusal) → IsProposalRefusal r → IsTrue (hides_proposal r)
-one_proposal r (inl (inl is)) = subst (λ x. IsTrue (hides_proposal x)) (sym is) refl
-one_proposal r (inl (inr is)) = subst (λ x. IsTrue (hides_proposal x)) (sym is) refl
-one_proposal r (inr is) = subst (λ x. IsTrue (hides_proposal x)) (sym is) refl
-
--- the refusals of a read that was done, in the words of readings
-in_read : {A E : Type 0} (may told : Refusal → Type 0) → ((r : Refusal) → may r → told r) → (result : Result (Result A Refusal) E)
-    → IfOk result (λ given. IfErr given may) → IfOk result (λ given. IfErr given told)
-in_read may told each (Err e) h = tt
-in_read may told each (Ok (Ok x)) h = tt
-in_read may told each (Ok (Err r)) h = each r h
-
-module _ {A E : Type 0} (result : Result (Result A Refusal) E) where
-  pub reader_read : IfOk result (λ given. IfErr given IsReaderRefusal) → IfOk result (λ given. IfErr given (λ r. IsTrue (turns_away r)))
-  reader_read = in_read IsReaderRefusal (λ r. IsTrue (turns_away r)) reader result
-
-  pub officer_read : IfOk result (λ given. IfErr given IsOfficerRefusal) → IfOk result (λ given. IfErr given (λ r. IsTrue (turns_away r)))
-  officer_read = in_read IsOfficerRefusal (λ r. IsTrue (turns_away r)) officer result
-
-  pub request_read : IfOk result (λ given. IfErr given IsRequestRefusal) → IfOk result (λ given. IfErr given (λ r. IsTrue (hides_request r)))
-  request_read = in_read IsRequestRefusal (λ r. IsTrue (hides_request r)) one_request result
-
-  pub proposal_read : IfOk result (λ given. IfErr given IsProposalRefusal) → IfOk result (λ given. IfErr given (λ r. IsTrue (hides_proposal r)))
-  proposal_read = in_read IsProposalRefusal (λ r. IsTrue (hides_proposal r)) one_proposal result
 
 -- ---- impacts
 

@@ -43,10 +43,6 @@ pub record Seen : Type 0 where
 abbrev pub now : History → Seen
 now cs = record { at = cs; since = [] }
 
--- the empty history of a new desk, and every call of these lives
-abbrev pub from_the_first : List Life → Seen
-from_the_first lives = record { at = []; since = events_of lives }
-
 -- the history is one that the calls since then may leave
 abbrev pub IsSince : Seen → History → Type 0
 IsSince seen cs = MayLeave seen.at seen.since cs

@@ -1,34 +1,25 @@
 //! The questions that a desk is asked.
-ghost use Rattle.std.specs.Prelude.{◌≡◌, ⊤, filter, map};
+ghost use Rattle.std.specs.Prelude.{◌≡◌, ⊤, filter};
 ghost use Rattle.store_counts.specs.Counts.{CountTables};
 ghost use Rattle.desk_history.specs.People.{has_token};
-ghost use Rattle.desk_history.specs.Shown.{GivesRequest, IsGiven, requests_for};
-ghost use Rattle.desk_history.specs.Shown.{proposals_for, shown_proposal};
 ghost use Rattle.desk_history.specs.Tables.{tables};
 ghost use Rattle.store_decision_rows.specs.lists.Lists.{HoldsNoOther};
 ghost use Rattle.store_reads.specs.Reads.{listed};
 ghost use Rattle.desk_rules.specs.Shown.{Shows};
 ghost use Rattle.desk_rules.specs.Views.{ShowsLists, keys_of};
-ghost use Rattle.desk_exports.specs.Readings.{HoldsShown};
-ghost use Rattle.desk_exports.specs.declared.reading.Reading.TheVariants as read;
 ghost use Rattle.store_decision_rows.specs.remembered.Current.{IsCurrent};
 ghost use Rattle.store_decision_rows.specs.sizes.Sizes.{AreRight};
-ghost use Rattle.desk_types.specs.declared.caller.Caller.TheVariants as callers;
 ghost use Rattle.store_decision_rows.specs.Named.{HoldsNoRowBeyond};
 
 use crate::asking::Question;
-use crate::person_questions::PersonQuestion;
 use base::{Digest, Refusal};
-use desk_exports::RequestList;
 use desk_rules::{CallRef, ListView, View};
-use desk_types::{Facts, Person, PersonName, Proposal, RequestNumber, ShownRequest};
+use desk_types::{Facts, Person};
 use sqlite::{Alter, Transaction};
 use std::alloc::Global;
-use std::marker::PhantomData;
 use store_counts::{Counts, counts};
 use store_decision_rows::{KnownSizes, Remembered, list_view, view};
-use store_reads::{ReadFault, person_of_token};
-use store_shown::{proposals_of, request, requests_of};
+use store_reads::person_of_token;
 
 /// Who has the token of this SHA-256?
 #[derive(Drop)]
@@ -139,77 +130,5 @@ impl<'a> Question for RowsFor<'a> {
             }),
             Err(failure) => Err(failure),
         }
-    }
-}
-
-/// What is the person shown of the request of this number?
-#[derive(Drop)]
-pub(crate) struct OneRequest {
-    pub(crate) number: RequestNumber,
-}
-
-impl PersonQuestion for OneRequest {
-    type Given = ShownRequest;
-
-    ghost reading = { λ q. read.Request q.number };
-
-    ghost gives = { λ q name cs given. GivesRequest cs (callers.Person name) q.number given };
-
-    fn read_for<S: Alter>(
-        &self,
-        alloc: Global,
-        tx: &mut Transaction<'_, S>,
-        kept_person: Option<&Person>,
-        name: &PersonName,
-    ) -> Result<Result<ShownRequest, Refusal>, ReadFault> {
-        request(alloc, tx, kept_person, name, self.number)
-    }
-}
-
-/// Which requests is the person shown? They are collected into an `L`.
-#[derive(Drop)]
-pub(crate) struct AllRequests<L> {
-    pub(crate) list: PhantomData<L>,
-}
-
-impl<L: RequestList + Drop> PersonQuestion for AllRequests<L> {
-    type Given = L;
-
-    ghost reading = { λ _. read.Requests };
-
-    ghost gives = { λ _ name cs given.
-        IsGiven (requests_for cs (callers.Person name)) given (HoldsShown L.RequestList.holds) };
-
-    fn read_for<S: Alter>(
-        &self,
-        alloc: Global,
-        tx: &mut Transaction<'_, S>,
-        kept_person: Option<&Person>,
-        name: &PersonName,
-    ) -> Result<Result<L, Refusal>, ReadFault> {
-        requests_of(alloc, tx, kept_person, name)
-    }
-}
-
-/// Which proposals is the person shown?
-#[derive(Drop)]
-pub(crate) struct AllProposals;
-
-impl PersonQuestion for AllProposals {
-    type Given = Vec<Proposal>;
-
-    ghost reading = { λ _. read.Proposals };
-
-    ghost gives = { λ _ name cs given. IsGiven (proposals_for cs (callers.Person name)) given
-        (λ ps shown. shown.items ≡ map (shown_proposal cs) ps) };
-
-    fn read_for<S: Alter>(
-        &self,
-        alloc: Global,
-        tx: &mut Transaction<'_, S>,
-        kept_person: Option<&Person>,
-        name: &PersonName,
-    ) -> Result<Result<Vec<Proposal>, Refusal>, ReadFault> {
-        proposals_of(alloc, tx, kept_person, name)
     }
 }

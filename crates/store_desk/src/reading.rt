@@ -6,31 +6,34 @@ ghost use Rattle.store_desk.specs.Showing.{GivesDue, IsReadingRefusal, IsReopene
 ghost use Rattle.store_desk.specs.Showing.{RefusesDue};
 
 use crate::desk::Desk;
-use crate::officer_questions::{AllPeople, MinutesFrom, OneProposal};
-use crate::part_questions::{
-    ChangesFor, PartOfProposals, PartOfRequests, RequestsWith, WaitingFor,
-};
-use crate::questions::{AllProposals, AllRequests, OneRequest};
 use base::Refusal;
 use desk_exports::{Reading, RequestList, Shown};
 use desk_history::ShownPerson;
 use desk_types::{Caller, Person};
 use sqlite::Alter;
-use std::marker::PhantomData;
 
 impl<S: Alter + Drop> Desk<S> {
-    /// What the person is shown, each as the call of its name gives it: `requests_of`,
-    /// `requests_from`, `requests_with`, `request`, `proposals`, `proposals_from`, `proposal`,
-    /// `impact`, `waiting`, `changes`, `export` into memory, `report`, `minutes_from`, `people`; the
-    /// person's own name and role by none. Requests are collected into an `L`. The report is for
-    /// officers: anybody else gets `NotYourRole`, even from a desk that has to be opened again, and
-    /// so gets everybody their own name and role. Nothing is changed. Takes memory for what is
-    /// shown, and for a search of requests by a digest.
+    /// What the person is shown of the desk (`IsShownTo`). Nothing is changed. Requests are
+    /// collected into an `L`, one after another, ascending by number. Takes memory for what is
+    /// shown, and:
     ///
-    /// `NotYourRole`, `UnknownCaller`, `NoSuchRequest`, `NoSuchProposal`, `ProposalClosed`,
-    /// `AlreadyRevoked`, `NotHigher`, `StampNotLater`, `Full`: as those calls say. `NoMemory`:
-    /// memory was refused. `Store`: the store failed, or isn't as a desk left it. `Reopen`: an
-    /// earlier call answered `Store`.
+    /// - `RequestsWith`: for a flag for each request of the desk;
+    /// - `Proposals`, `ProposalsFrom`, `Waiting`: for all that one proposal names at a time;
+    /// - `Changes`: for the votes on one request at a time;
+    /// - `Impact`, `Export`, `Report`: as `impact`, `export` into memory and `report` do.
+    ///
+    /// A part that begins at a number reads no row before it, and of requests and proposals none
+    /// after the last that is given. The report is for officers: anybody else gets `NotYourRole`,
+    /// even from a desk that has to be opened again; and such a desk gives everybody the own name
+    /// and role.
+    ///
+    /// `UnknownCaller`: nobody has the person's name. `NotYourRole`: a reading for officers, who
+    /// alone are shown proposals, impacts, the report, minutes and people, and the person is none.
+    /// `NoSuchRequest`: no request has the number, or the person is a submitter and the request is
+    /// another person's; the answer is the same. `NoSuchProposal`: no proposal has the number.
+    /// `ProposalClosed`, `AlreadyRevoked`, `NotHigher`, `StampNotLater`, `Full`: as `impact` says.
+    /// `NoMemory`: memory was refused. `Store`: the store failed, or isn't as a desk left it.
+    /// `Reopen`: an earlier call answered `Store`.
     pub fn read<L: RequestList + Drop>(
         &mut self,
         person: Person,
@@ -47,36 +50,24 @@ impl<S: Alter + Drop> Desk<S> {
             × (self.new ≡ self.old) }
     {
         match reading {
-            Reading::Requests => self.show(&person, &AllRequests::<L> { list: PhantomData }),
-            Reading::RequestsFrom(number) => {
-                let question: PartOfRequests<L> = PartOfRequests {
-                    number,
-                    list: PhantomData,
-                };
-                self.show(&person, &question)
-            }
-            Reading::RequestsWith(digest) => {
-                let question: RequestsWith<L> = RequestsWith {
-                    digest,
-                    list: PhantomData,
-                };
-                self.show(&person, &question)
-            }
-            Reading::Request(number) => self.show(&person, &OneRequest { number }),
-            Reading::Proposals => self.show(&person, &AllProposals),
-            Reading::ProposalsFrom(number) => self.show(&person, &PartOfProposals { number }),
-            Reading::Proposal(number) => self.show(&person, &OneProposal { number }),
             Reading::Impact(number) => self.show_impact(&Caller::Person(person.name), number),
-            Reading::Waiting => self.show(&person, &WaitingFor::<L> { list: PhantomData }),
-            Reading::Changes => self.show(&person, &ChangesFor),
             Reading::Export(what) => self.show_export(what),
             Reading::Report => self.show_report(person.role),
-            Reading::Minutes(number) => self.show(&person, &MinutesFrom { number }),
             Reading::Me => Ok(Shown::Me(ShownPerson {
                 name: person.name,
                 role: person.role,
             })),
-            Reading::People => self.show(&person, &AllPeople),
+            Reading::Requests
+            | Reading::RequestsFrom(_)
+            | Reading::RequestsWith(_)
+            | Reading::Request(_)
+            | Reading::Proposals
+            | Reading::ProposalsFrom(_)
+            | Reading::Proposal(_)
+            | Reading::Waiting
+            | Reading::Changes
+            | Reading::Minutes(_)
+            | Reading::People => self.show(&person, reading),
         }
     }
 }

@@ -12,8 +12,11 @@ use Rattle.desk_history.specs.Calls.{History}
 use Rattle.desk_history.specs.Formed.{IsHistory}
 use Rattle.desk_history.specs.People.{has_name, people}
 use Rattle.desk_history.specs.Requests.{Request, has_number, requests}
-use Rattle.desk_history.specs.Shown.{GivesRequest, IsGiven, IsShown, Whole, found_among, is_numbered, is_shown_to, request_for, sees, whole, wholes}
+use Rattle.desk_history.specs.Shown.{IsGiven, IsShown, Whole, found_among, is_numbered, is_shown_to, request_for, sees, whole, wholes}
 use Rattle.desk_history.specs.Tables.{tables}
+use Rattle.desk_exports.specs.Readings as readings
+use Rattle.desk_exports.specs.declared.shown.Shown.{Shown}
+use Rattle.desk_exports.specs.declared.shown.Shown.TheVariants as answers
 use Rattle.desk_history.specs.declared.rows.RequestRow.{RequestRow}
 use Rattle.desk_history.proofs.ListLemmas.{number_is}
 use Rattle.desk_history.proofs.ShownLemmas.{found_passes}
@@ -22,7 +25,11 @@ use Rattle.store_shown.specs.Steps.{IsShownIn, visible_row}
 use Rattle.store_shown.proofs.ItemLemmas.{found_listed, found_passing, map_listed, passing, unmapped}
 use Rattle.store_shown.proofs.MadeLemmas.{is_shown, row_of}
 
-module _ (owner : List ℕ) (cs : History) (name : List ℕ) (k : ℕ) where
+module _ (owner : List ℕ) (cs : History) (name : List ℕ) (k : ℕ) {L : Type 0} (holds : L → List ShownRequest → Type 0) where
+  -- the answer that is given is due
+  abbrev Gives : Result (Shown L) Refusal → Type 0
+  Gives given = IsGiven (request_for cs (callers.Person name) k) given (readings.GivesRequest holds)
+
   -- the answer that is due to the person whom the name finds
   abbrev due_to : Option Person → Result Whole Refusal
   due_to o = found_among k (result_map_both (λ p. filter (λ w. is_shown_to p w) (wholes cs)) (λ refusal. refusal) (ok_or o refusals.UnknownCaller))
@@ -38,8 +45,8 @@ module _ (owner : List ℕ) (cs : History) (name : List ℕ) (k : ℕ) where
   due : (found : Option Person) → IsNamed found → request_for cs (callers.Person name) k ≡ due_to found
   due found e = ap due_to (found_listed (has_name name) (people cs) found e)
 
-  pub gives_nobody : IsNamed None → GivesRequest cs (callers.Person name) k (Err refusals.UnknownCaller)
-  gives_nobody e = subst (λ d. IsGiven d (Err refusals.UnknownCaller) IsShown) (sym (due None e)) refl
+  pub gives_nobody : IsNamed None → Gives (Err refusals.UnknownCaller)
+  gives_nobody e = subst (λ d. IsGiven d (Err refusals.UnknownCaller) (readings.GivesRequest holds)) (sym (due None e)) refl
 
   -- the request whose row was read
   asked : (row : Option RequestRow) → IsAsked row → (found : Option Request) × (filter (has_number k) (requests cs) ≡ listed found) × (row ≡ option_map (row_of cs) found)
@@ -58,12 +65,12 @@ module _ (owner : List ℕ) (cs : History) (name : List ℕ) (k : ℕ) where
   none_found None e = refl
   none_found (Some r) e = absurd cc
 
-  gives_absent : (p : Person) → IsNamed (Some p) → IsAsked None → GivesRequest cs (callers.Person name) k (Err refusals.NoSuchRequest)
+  gives_absent : (p : Person) → IsNamed (Some p) → IsAsked None → Gives (Err refusals.NoSuchRequest)
   gives_absent p e f =
       let it = asked None f in
       let none : it.0 ≡ None = none_found it.0 it.2 in
       let is : request_for cs (callers.Person name) k ≡ Err refusals.NoSuchRequest = due_of p e None (it.1 ∙ ap listed none) in
-      subst (λ d. IsGiven d (Err refusals.NoSuchRequest) IsShown) (sym is) refl
+      subst (λ d. IsGiven d (Err refusals.NoSuchRequest) (readings.GivesRequest holds)) (sym is) refl
 
   -- the request of the row that was read
   record IsOfRow (row : RequestRow) (r : Request) : Type 0 where
@@ -87,34 +94,35 @@ module _ (owner : List ℕ) (cs : History) (name : List ℕ) (k : ℕ) where
       due_of p e (Some r) it.one
       ∙ ap (λ (c : Bool). ok_or (if c then Some (whole cs r) else None) refusals.NoSuchRequest) (ap (λ (x : RequestRow). is_reader p x) (sym it.is) ∙ h)
 
-  gives_hidden : (p : Person) → IsNamed (Some p) → (row : RequestRow) → IsAsked (Some row) → is_reader p row ≡ false → GivesRequest cs (callers.Person name) k (Err refusals.NoSuchRequest)
+  gives_hidden : (p : Person) → IsNamed (Some p) → (row : RequestRow) → IsAsked (Some row) → is_reader p row ≡ false → Gives (Err refusals.NoSuchRequest)
   gives_hidden p e row f h =
       let it = row_asked row f in
-      subst (λ d. IsGiven d (Err refusals.NoSuchRequest) IsShown) (sym (due_if p e row it.0 it.1 false h)) refl
+      subst (λ d. IsGiven d (Err refusals.NoSuchRequest) (readings.GivesRequest holds)) (sym (due_if p e row it.0 it.1 false h)) refl
 
   gives_visible : IsHistory cs → (p : Person) → IsNamed (Some p) → (row : RequestRow) → IsAsked (Some row) → is_reader p row ≡ true → (s : ShownRequest) → IsShownIn (tables owner cs) row s
-      → GivesRequest cs (callers.Person name) k (Ok s)
+      → Gives (Ok (answers.Request s))
   gives_visible history p e row f h s shown =
       let it = row_asked row f in
       let r = it.0 in
       let passes : (k == r.number) ≡ true = found_passes (has_number k) (requests cs) r (found_listed (has_number k) (requests cs) (Some r) it.1.one) in
       let one : filter (has_number r.number) (requests cs) ≡ r ∷ [] = subst (λ n. filter (has_number n) (requests cs) ≡ r ∷ []) (number_is k r.number passes) it.1.one in
-      subst (λ d. IsGiven d (Ok s) IsShown) (sym (due_if p e row r it.1 true h)) (is_shown owner cs history r one s (subst (λ x. IsShownIn (tables owner cs) x s) it.1.is shown))
+      subst (λ d. IsGiven d (Ok (answers.Request s)) (readings.GivesRequest holds)) (sym (due_if p e row r it.1 true h))
+      (s, is_shown owner cs history r one s (subst (λ x. IsShownIn (tables owner cs) x s) it.1.is shown), refl)
 
-  pub gives_none : (p : Person) → IsNamed (Some p) → (row : Option RequestRow) → IsAsked row → visible_row p row ≡ None → GivesRequest cs (callers.Person name) k (Err refusals.NoSuchRequest)
+  pub gives_none : (p : Person) → IsNamed (Some p) → (row : Option RequestRow) → IsAsked row → visible_row p row ≡ None → Gives (Err refusals.NoSuchRequest)
   gives_none p e None f h = gives_absent p e f
   gives_none p e (Some row) f h = by (is_reader p row) refl
     where
-      by : (b : Bool) → is_reader p row ≡ b → GivesRequest cs (callers.Person name) k (Err refusals.NoSuchRequest)
+      by : (b : Bool) → is_reader p row ≡ b → Gives (Err refusals.NoSuchRequest)
       by true q = absurd (let is : (if true then Some row else None) ≡ None = ap (λ b. if b then Some row else None) (sym q) ∙ h in cc)
       by false q = gives_hidden p e row f q
 
   pub gives_shown : IsHistory cs → (p : Person) → IsNamed (Some p) → (asked : Option RequestRow) → IsAsked asked → (row : RequestRow) → visible_row p asked ≡ Some row
-      → (s : ShownRequest) → IsShownIn (tables owner cs) row s → GivesRequest cs (callers.Person name) k (Ok s)
+      → (s : ShownRequest) → IsShownIn (tables owner cs) row s → Gives (Ok (answers.Request s))
   gives_shown history p e None f row h s shown = absurd cc
   gives_shown history p e (Some first) f row h s shown = by (is_reader p first) refl
     where
-      by : (b : Bool) → is_reader p first ≡ b → GivesRequest cs (callers.Person name) k (Ok s)
+      by : (b : Bool) → is_reader p first ≡ b → Gives (Ok (answers.Request s))
       by true q =
           let is : Some first ≡ Some row = ap (λ b. if b then Some first else None) (sym q) ∙ h in
           let same : first ≡ row = cc in

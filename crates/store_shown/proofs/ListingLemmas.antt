@@ -30,7 +30,8 @@ use Rattle.desk_exports.specs.Waiting as waiting
 use Rattle.desk_history.specs.declared.rows.RequestRow.{RequestRow}
 use Rattle.store_reads.specs.Reads.{listed}
 use Rattle.store_proposals.proofs.PlaceLemmas as place
-use Rattle.desk_exports.specs.Readings.{HoldsShown}
+use Rattle.desk_exports.specs.Readings.{GivesRequests, HoldsShown}
+use Rattle.desk_exports.specs.declared.shown.Shown.TheVariants as answers
 use Rattle.store_shown.specs.Choosing.{ListsUpTo, has_digest, has_voted, is_of_return, keeps_shown, picks_row}
 use Rattle.store_shown.specs.Steps.{IsShownIn, rows_at}
 use Rattle.store_shown.specs.declared.choice.Choice.{Choice}
@@ -323,8 +324,9 @@ module _ (owner : List ℕ) (cs : History) (name : List ℕ) where
   gives_nobody shows e = subst (λ d. IsGiven d (Err refusals.UnknownCaller) shows) (sym (due None e)) refl
 
   pub gives_all : IsHistory cs → (p : Person) → IsNamed (Some p) → (last : ℕ) → last ≡ length (tables owner cs).requests → {L : Type 0} (holds : L → List ShownRequest → Type 0) (list : L)
-      → ListsUpTo choices.Shown p (tables owner cs) 0 last last (holds list) → IsGiven (requests_for cs (callers.Person name)) (Ok list) (HoldsShown holds)
-  gives_all h p e last count holds list l = subst (λ d. IsGiven d (Ok list) (HoldsShown holds)) (sym (due (Some p) e)) (are_shown owner cs p h last count holds list l)
+      → ListsUpTo choices.Shown p (tables owner cs) 0 last last (holds list) → IsGiven (requests_for cs (callers.Person name)) (Ok (answers.Requests list)) (GivesRequests holds)
+  gives_all h p e last count holds list l =
+      subst (λ d. IsGiven d (Ok (answers.Requests list)) (GivesRequests holds)) (sym (due (Some p) e)) (list, are_shown owner cs p h last count holds list l, refl)
 
   -- from a number on
   module _ (n : ℕ) where
@@ -335,5 +337,6 @@ module _ (owner : List ℕ) (cs : History) (name : List ℕ) where
     from_nobody shows e = subst (λ d. IsGiven d (Err refusals.UnknownCaller) shows) (sym (ap part (due None e))) refl
 
     pub gives_from : IsHistory cs → (p : Person) → IsNamed (Some p) → (last : ℕ) → last ≡ length (tables owner cs).requests → {L : Type 0} (holds : L → List ShownRequest → Type 0) (list : L)
-        → ListsUpTo choices.Shown p (tables owner cs) (min (n - 1) last) last 1000 (holds list) → IsGiven (requests_from cs (callers.Person name) n) (Ok list) (HoldsShown holds)
-    gives_from h p e last count holds list l = subst (λ d. IsGiven d (Ok list) (HoldsShown holds)) (sym (ap part (due (Some p) e))) (from_shown owner cs p h n last count holds list l)
+        → ListsUpTo choices.Shown p (tables owner cs) (min (n - 1) last) last 1000 (holds list) → IsGiven (requests_from cs (callers.Person name) n) (Ok (answers.Requests list)) (GivesRequests holds)
+    gives_from h p e last count holds list l =
+        subst (λ d. IsGiven d (Ok (answers.Requests list)) (GivesRequests holds)) (sym (ap part (due (Some p) e))) (list, from_shown owner cs p h n last count holds list l, refl)

@@ -1,5 +1,5 @@
 -- The answers that only officers get.
-use Rattle.std.proofs.Common.{◌≡◌, ℕ, Bool, true, false, List, [], ◌∷◌, filter, Option, Some, None, Result, Ok, Err, refl, sym, ap, subst, ◌∙◌, IsTrue}
+use Rattle.std.proofs.Common.{◌≡◌, inl, inr, ℕ, Bool, true, false, List, [], ◌∷◌, filter, Option, Some, None, Result, Ok, Err, refl, sym, ap, subst, ◌∙◌, IsTrue}
 use Rattle.std.specs.Prelude.{⊤, if◌then◌else◌, ok_or}
 use Rattle.std.specs.Result.{result_map_both}
 use Rattle.sqlite.specs.State.{State}
@@ -19,7 +19,7 @@ use Rattle.store_schema.specs.Tables.{desk_layout}
 use Rattle.store_schema.specs.rows.Contents.{contents}
 use Rattle.store_sql.proofs.StopLemmas.{turns_none}
 use Rattle.store_shown.specs.Steps.{KeepsOfficer}
-use Rattle.store_shown.specs.Telling.{IsOfficer, TellsOf}
+use Rattle.store_shown.specs.Telling.{IsOfficer, IsOfficerRefusal, TellsOf}
 use Rattle.store_shown.proofs.ItemLemmas.{found_listed}
 use Rattle.store_shown.proofs.TellsLemmas.{tells_after, tells_of, tells_on}
 
@@ -76,6 +76,11 @@ module _ (cs : History) (name : List ℕ) where
   pub kept_officer : (kept : Option Person) → KeepsOfficer kept name → IsOneOf kept (people cs) → IsOfficer cs name (Ok tt)
   kept_officer None is known = absurd is
   kept_officer (Some p) is known = is_by_role p (subst (λ n. filter (has_name n) (people cs) ≡ p ∷ []) (sym is.0) known) true is.1
+
+-- a reading that may be refused so may have each refusal of those who are no officers
+pub turned_away : (may : Refusal → Bool) → IsTrue (may refusals.UnknownCaller) → IsTrue (may refusals.NotYourRole) → (r : Refusal) → IsOfficerRefusal r → IsTrue (may r)
+turned_away may unknown role r (inl is) = subst (λ x. IsTrue (may x)) (sym is) unknown
+turned_away may unknown role r (inr is) = subst (λ x. IsTrue (may x)) (sym is) role
 
 -- ---- the steps from the read of a person to the answer, where the person who is kept is one of the
 -- desk's

@@ -26,7 +26,8 @@ use Rattle.desk_history.specs.declared.rows.ReturnRow.{ReturnRow}
 use Rattle.desk_history.proofs.ListLemmas.{number_is}
 use Rattle.desk_history.proofs.ShownLemmas.{found_passes}
 use Rattle.desk_exports.specs.DigestSearch as search
-use Rattle.desk_exports.specs.Readings.{HoldsShown}
+use Rattle.desk_exports.specs.Readings.{GivesRequests, HoldsShown}
+use Rattle.desk_exports.specs.declared.shown.Shown.TheVariants as answers
 use Rattle.store_proposals.proofs.PlaceLemmas as place
 use Rattle.store_reads.specs.Numbers.{numbers_in}
 use Rattle.store_reads.specs.declared.digest_numbers.DigestColumn.{DigestColumn}
@@ -359,6 +360,7 @@ module _ (owner : List ℕ) (cs : History) (name d : List ℕ) where
 
   pub gives_with : IsHistory cs → (p : Person) → listing.IsNamed owner cs name (Some p) → (last : ℕ) → last ≡ length (tables owner cs).requests → (marks : List Bool) → MarksAll d marks (tables owner cs)
       → {L : Type 0} (holds : L → List ShownRequest → Type 0) (list : L) → FindsUpTo (choices.With d) p (tables owner cs) marks last 1000 (holds list)
-      → IsGiven (search.requests_with cs (callers.Person name) d) (Ok list) (HoldsShown holds)
+      → IsGiven (search.requests_with cs (callers.Person name) d) (Ok (answers.Requests list)) (GivesRequests holds)
   gives_with h p e last count marks all holds list it =
-      subst (λ due. IsGiven due (Ok list) (HoldsShown holds)) (sym (ap first (listing.due owner cs name (Some p) e))) (with_shown owner cs p d marks all h last count holds list it)
+      subst (λ due. IsGiven due (Ok (answers.Requests list)) (GivesRequests holds)) (sym (ap first (listing.due owner cs name (Some p) e)))
+      (list, with_shown owner cs p d marks all h last count holds list it, refl)

@@ -11,6 +11,7 @@ use Rattle.base.specs.declared.refusal.Refusal.{Refusal}
 use Rattle.base.specs.declared.refusal.Refusal.TheVariants as refusals
 use Rattle.desk_types.specs.declared.caller.Caller.TheVariants as callers
 use Rattle.desk_types.specs.declared.command.Person.{Person}
+use Rattle.desk_types.specs.declared.proposal.Proposal.{Proposal as ShownProposal}
 use Rattle.desk_types.specs.declared.role.Role.{Role}
 use Rattle.desk_types.specs.declared.role.Role.TheVariants as roles
 use Rattle.desk_types.specs.declared.shown.ShownRequest.{ShownRequest}
@@ -27,7 +28,9 @@ use Rattle.desk_history.specs.Tables.{Tables, tables}
 use Rattle.desk_exports.specs.Waiting.{Waiting, awaits, has_voted, may_wait, waiting, waiting_for, waits_for}
 use Rattle.desk_history.specs.declared.rows.RequestRow.{RequestRow}
 use Rattle.desk_history.specs.declared.rows.VoteRow.{VoteRow}
-use Rattle.desk_exports.specs.Readings.{HoldsShown}
+use Rattle.desk_exports.specs.Readings.{GivesChanges, GivesWaiting, HoldsShown}
+use Rattle.desk_exports.specs.declared.shown.Shown.{Shown}
+use Rattle.desk_exports.specs.declared.shown.Shown.TheVariants as answers
 use Rattle.store_proposals.specs.Listing.{AreListable}
 use Rattle.store_proposals.specs.Numbered as numbered
 use Rattle.store_proposals.proofs.PlaceLemmas as place
@@ -35,9 +38,7 @@ use Rattle.store_reads.specs.Reads.{listed}
 use Rattle.store_shown.specs.Choosing.{ListsUpTo}
 use Rattle.store_shown.specs.Happening.{HappenedTo, HappenedToFirst, events_in, events_of, is_submitter}
 use Rattle.store_shown.specs.Steps.{rows_at, sees_row}
-use Rattle.store_shown.specs.Waits.{ShowsWaiting}
 use Rattle.store_shown.specs.declared.choice.Choice.TheVariants as choices
-use Rattle.store_shown.specs.declared.waits.Waits.{Waits}
 use Rattle.store_shown.proofs.ItemLemmas.{drops, found_listed, keeps}
 use Rattle.store_shown.proofs.ListingLemmas as listing
 use Rattle.store_shown.proofs.MadeLemmas.{row_of}
@@ -77,34 +78,36 @@ module _ (owner : List ℕ) (cs : History) (name : List ℕ) where
   pub waits_nobody : {B : Type 0} (shows : Waiting → B → Type 0) → listing.IsNamed owner cs name None → IsGiven (waiting_for cs (callers.Person name)) (Err refusals.UnknownCaller) shows
   waits_nobody shows e = subst (λ d. IsGiven d (Err refusals.UnknownCaller) shows) (sym (due None e)) refl
 
-  module _ (p : Person) (e : listing.IsNamed owner cs name (Some p)) {L : Type 0} (holds : L → List ShownRequest → Type 0) (shown : Waits L) where
+  module _ (p : Person) (e : listing.IsNamed owner cs name (Some p)) {L : Type 0} (holds : L → List ShownRequest → Type 0) (list : L) (given : List ShownProposal) where
     abbrev all : Result (List Whole) Refusal
     all = Ok (reverse (filter (λ (w : Whole). is_shown_to p w) (wholes cs)))
 
-    given_by : (b : Bool) → is_officer p.role ≡ b → ShowsWaiting holds cs (waiting cs all (proposals_by b p) p) shown
-        → IsGiven (waiting_for cs (callers.Person name)) (Ok shown) (ShowsWaiting holds cs)
+    given_by : (b : Bool) → is_officer p.role ≡ b → GivesWaiting holds cs (waiting cs all (proposals_by b p) p) (answers.Waiting list given)
+        → IsGiven (waiting_for cs (callers.Person name)) (Ok (answers.Waiting list given)) (GivesWaiting holds cs)
     given_by b is it =
-        subst (λ d. IsGiven d (Ok shown) (ShowsWaiting holds cs)) (sym (due (Some p) e)) (subst (λ c. ShowsWaiting holds cs (waiting cs all (proposals_by c p) p) shown) (sym is) it)
+        subst (λ d. IsGiven d (Ok (answers.Waiting list given)) (GivesWaiting holds cs)) (sym (due (Some p) e))
+        (subst (λ c. GivesWaiting holds cs (waiting cs all (proposals_by c p) p) (answers.Waiting list given)) (sym is) it)
 
     -- for an officer
     pub waits_officer : AreListable (tables owner cs).proposals → is_officer p.role ≡ true
-        → numbered.ListsUpTo (Some p.name) (tables owner cs) 0 (length (tables owner cs).proposals) (length (tables owner cs).proposals) shown.proposals.items → holds shown.requests []
-        → IsGiven (waiting_for cs (callers.Person name)) (Ok shown) (ShowsWaiting holds cs)
+        → numbered.ListsUpTo (Some p.name) (tables owner cs) 0 (length (tables owner cs).proposals) (length (tables owner cs).proposals) given → holds list []
+        → IsGiven (waiting_for cs (callers.Person name)) (Ok (answers.Waiting list given)) (GivesWaiting holds cs)
     waits_officer can is it empty =
         let ws = reverse (filter (λ (w : Whole). is_shown_to p w) (wholes cs)) in
         let none : filter (waits_for p) ws ≡ [] =
         none_kept (waits_for p) (λ w. ap (λ b. b && not (has_voted p w)) (officer_waits_for_none p.role is (bytes_eq p.name w.request.submitter) w.state)) ws in
-        given_by true is (record {
-          requests = subst (λ l. HoldsShown holds l shown.requests) (sym none) (record { shown = []; are = tt; held = empty });
-          proposals = proposed.waiting_shown owner cs can p (length (tables owner cs).proposals) refl shown.proposals.items it;
-        })
+        given_by true is (
+          list,
+          subst (λ l. HoldsShown holds l list) (sym none) (record { shown = []; are = tt; held = empty }),
+          ap (answers.Waiting list) (proposed.waiting_shown owner cs can p (length (tables owner cs).proposals) refl given it),
+        )
 
     -- for everybody else
     pub waits_other : IsHistory cs → is_officer p.role ≡ false
-        → ListsUpTo choices.Waiting p (tables owner cs) 0 (length (tables owner cs).requests) (length (tables owner cs).requests) (holds shown.requests) → shown.proposals.items ≡ []
-        → IsGiven (waiting_for cs (callers.Person name)) (Ok shown) (ShowsWaiting holds cs)
+        → ListsUpTo choices.Waiting p (tables owner cs) 0 (length (tables owner cs).requests) (length (tables owner cs).requests) (holds list) → given ≡ []
+        → IsGiven (waiting_for cs (callers.Person name)) (Ok (answers.Waiting list given)) (GivesWaiting holds cs)
     waits_other h is it empty =
-        given_by false is (record { requests = listing.waiting_shown owner cs p h (length (tables owner cs).requests) refl holds shown.requests it; proposals = empty })
+        given_by false is (list, listing.waiting_shown owner cs p h (length (tables owner cs).requests) refl holds list it, ap (answers.Waiting list) empty)
 
 -- ---- the number that tells of changes
 
@@ -190,24 +193,27 @@ by_events cs ws p roles.Reviewer is h = absurd (true≢false (sym h))
 by_events cs ws p roles.Officer is h = absurd (true≢false (sym h))
 by_events cs ws p roles.Signer is h = absurd (true≢false (sym h))
 
-module _ (owner : List ℕ) (cs : History) (name : List ℕ) where
+module _ (owner : List ℕ) (cs : History) (name : List ℕ) {L : Type 0} (holds : L → List ShownRequest → Type 0) where
+  abbrev gives : ℕ → Shown L → Type 0
+  gives = GivesChanges holds
+
   abbrev changes_of : Option Person → Result ℕ Refusal
   changes_of found = result_map_both (changes.changes cs (listing.due_of owner cs name found)) (λ (refusal : Refusal). refusal) (ok_or found refusals.UnknownCaller)
 
   due_number : (found : Option Person) → listing.IsNamed owner cs name found → changes.changes_for cs (callers.Person name) ≡ changes_of found
   due_number found e = ap changes_of (found_listed (has_name name) (people cs) found e)
 
-  pub changes_nobody : listing.IsNamed owner cs name None → IsGiven (changes.changes_for cs (callers.Person name)) (Err refusals.UnknownCaller) (λ (w n : ℕ). n ≡ w)
-  changes_nobody e = subst (λ d. IsGiven d (Err refusals.UnknownCaller) (λ (w n : ℕ). n ≡ w)) (sym (due_number None e)) refl
+  pub changes_nobody : listing.IsNamed owner cs name None → IsGiven (changes.changes_for cs (callers.Person name)) (Err refusals.UnknownCaller) gives
+  changes_nobody e = subst (λ d. IsGiven d (Err refusals.UnknownCaller) gives) (sym (due_number None e)) refl
 
   pub changes_by_calls : (p : Person) → listing.IsNamed owner cs name (Some p) → is_submitter p.role ≡ false → (n : ℕ) → n ≡ length (tables owner cs).calls
-      → IsGiven (changes.changes_for cs (callers.Person name)) (Ok n) (λ (w m : ℕ). m ≡ w)
+      → IsGiven (changes.changes_for cs (callers.Person name)) (Ok (answers.Changes n)) gives
   changes_by_calls p e is n count =
-      subst (λ d. IsGiven d (Ok n) (λ (w m : ℕ). m ≡ w)) (sym (due_number (Some p) e))
-      (count ∙ minutes_length cs ∙ by_calls cs (Ok (reverse (filter (λ (w : Whole). is_shown_to p w) (wholes cs)))) p p.role refl is)
+      subst (λ d. IsGiven d (Ok (answers.Changes n)) gives) (sym (due_number (Some p) e))
+      (ap answers.Changes (count ∙ minutes_length cs ∙ by_calls cs (Ok (reverse (filter (λ (w : Whole). is_shown_to p w) (wholes cs)))) p p.role refl is))
 
   pub changes_by_events : (p : Person) → listing.IsNamed owner cs name (Some p) → is_submitter p.role ≡ true → (n : ℕ)
-      → HappenedToFirst p (tables owner cs) (length (tables owner cs).requests) n → IsGiven (changes.changes_for cs (callers.Person name)) (Ok n) (λ (w m : ℕ). m ≡ w)
+      → HappenedToFirst p (tables owner cs) (length (tables owner cs).requests) n → IsGiven (changes.changes_for cs (callers.Person name)) (Ok (answers.Changes n)) gives
   changes_by_events p e is n it =
-      subst (λ d. IsGiven d (Ok n) (λ (w m : ℕ). m ≡ w)) (sym (due_number (Some p) e))
-      (events_shown owner cs p (length (tables owner cs).requests) n refl it ∙ by_events cs (reverse (filter (λ (w : Whole). is_shown_to p w) (wholes cs))) p p.role refl is)
+      subst (λ d. IsGiven d (Ok (answers.Changes n)) gives) (sym (due_number (Some p) e))
+      (ap answers.Changes (events_shown owner cs p (length (tables owner cs).requests) n refl it ∙ by_events cs (reverse (filter (λ (w : Whole). is_shown_to p w) (wholes cs))) p p.role refl is))

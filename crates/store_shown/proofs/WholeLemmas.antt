@@ -1,13 +1,18 @@
 -- One proposal with all that it names, as an officer is shown it.
-use Rattle.std.proofs.Common.{◌≡◌, ◌==◌, ℕ, true, List, filter, Option, Some, None, option_map, Ok, Err, refl, sym, ap, ◌∙◌}
+use Rattle.std.proofs.Common.{◌≡◌, ◌==◌, ℕ, true, List, filter, Option, Some, None, option_map, Result, Ok, Err, refl, sym, ap, subst, ◌∙◌}
 use Rattle.std.specs.Prelude.{ok_or}
 use Rattle.sqlite_trees.proofs.ListLemmas.{filter-map}
 use Rattle.base.specs.declared.refusal.Refusal.{Refusal}
 use Rattle.base.specs.declared.refusal.Refusal.TheVariants as refusals
 use Rattle.desk_types.specs.declared.caller.Caller.TheVariants as callers
+use Rattle.desk_types.specs.declared.shown.ShownRequest.{ShownRequest}
+use Rattle.desk_exports.specs.Readings.{GivesProposal}
+use Rattle.desk_exports.specs.declared.shown.Shown.{Shown}
+use Rattle.desk_exports.specs.declared.shown.Shown.TheVariants as answers
 use Rattle.desk_history.specs.Calls.{History}
 use Rattle.desk_history.specs.ProposalShown.{proposal_for, proposal_shown, shown_to_officer}
 use Rattle.desk_history.specs.Proposals.{Proposal, is_proposal, proposal_state, proposals}
+use Rattle.desk_history.specs.Shown.{IsGiven}
 use Rattle.desk_history.specs.Tables.{proposal_row, tables}
 use Rattle.desk_history.specs.declared.rows.ProposalRow.{ProposalRow}
 use Rattle.desk_history.proofs.ListLemmas.{number_is}
@@ -36,11 +41,19 @@ module _ (owner : List ℕ) (cs : History) (k : ℕ) where
       let it = unmapped row (filter (is_proposal k) (proposals cs)) found (sym (filter-map (λ (r : ProposalRow). k == r.number) row (proposals cs)) ∙ e) in
       ap (option_map (proposal_row (proposal_state cs k))) (found_listed (is_proposal k) (proposals cs) it.0 it.1) ∙ same_number it.0 it.1 ∙ sym it.2
 
-  module _ (name : List ℕ) where
-    pub gives_refusal : (r : Refusal) → IsOfficer cs name (Err r) → proposal_for cs (callers.Person name) k ≡ Err r
-    gives_refusal r h = ap (shown_to_officer (proposal_shown cs k)) (refused cs name r h)
+  module _ (name : List ℕ) {L : Type 0} (holds : L → List ShownRequest → Type 0) where
+    -- the answer that is given is due
+    abbrev Gives : Result (Shown L) Refusal → Type 0
+    Gives given = IsGiven (proposal_for cs (callers.Person name) k) given (GivesProposal holds)
 
-    pub gives_found : IsOfficer cs name (Ok tt) → (found : Option ProposalRow) → IsFound found
-        → proposal_for cs (callers.Person name) k ≡ ok_or found refusals.NoSuchProposal
-    gives_found h found e =
-        ap (shown_to_officer (proposal_shown cs k)) (allowed cs name h).1 ∙ ap (λ o. ok_or o refusals.NoSuchProposal) (shown_is found e)
+    pub gives_refusal : (r : Refusal) → IsOfficer cs name (Err r) → Gives (Err r)
+    gives_refusal r h = subst (λ d. IsGiven d (Err r) (GivesProposal holds)) (sym (ap (shown_to_officer (proposal_shown cs k)) (refused cs name r h))) refl
+
+    due : IsOfficer cs name (Ok tt) → (found : Option ProposalRow) → IsFound found → proposal_for cs (callers.Person name) k ≡ ok_or found refusals.NoSuchProposal
+    due h found e = ap (shown_to_officer (proposal_shown cs k)) (allowed cs name h).1 ∙ ap (λ o. ok_or o refusals.NoSuchProposal) (shown_is found e)
+
+    pub gives_none : IsOfficer cs name (Ok tt) → IsFound None → Gives (Err refusals.NoSuchProposal)
+    gives_none h e = subst (λ d. IsGiven d (Err refusals.NoSuchProposal) (GivesProposal holds)) (sym (due h None e)) refl
+
+    pub gives_row : IsOfficer cs name (Ok tt) → (row : ProposalRow) → IsFound (Some row) → Gives (Ok (answers.Proposal row))
+    gives_row h row e = subst (λ d. IsGiven d (Ok (answers.Proposal row)) (GivesProposal holds)) (sym (due h (Some row) e)) refl

@@ -4,4 +4,3 @@ pub mod Lines
 pub mod Searching
 pub mod Steps
 pub mod Telling
-pub mod Waits

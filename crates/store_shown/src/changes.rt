@@ -1,20 +1,18 @@
 //! The number that changes whenever what a person may see of requests or proposals changed.
-ghost use Rattle.std.specs.Prelude.{◌≡◌, ◌+◌, IfErr, IfOk, length, option_copied};
-ghost use Rattle.desk_exports.specs.Changes.{changes_for, end_of};
-ghost use Rattle.desk_history.specs.People.{people};
-ghost use Rattle.desk_history.specs.Shown.{IsGiven};
-ghost use Rattle.store_reads.specs.People.{IsOneOf};
+ghost use Rattle.std.specs.Prelude.{◌≡◌, ◌+◌, IfOk, length, option_copied};
+ghost use Rattle.desk_exports.specs.Changes.{end_of};
 ghost use Rattle.store_reads.specs.Reads.{ReadsTables};
 ghost use Rattle.store_shown.specs.Happening.{HappenedTo, HappenedToFirst, is_submitter};
-ghost use Rattle.store_shown.specs.Telling.{IsReaderRefusal, TellsOf};
+ghost use Rattle.store_shown.specs.Telling.{RefusesAs, ShowsTo};
 ghost use Rattle.store_sql.specs.States.{DoesInside, CommitsNothing, Spares, StaysInside};
-ghost use Rattle.desk_types.specs.declared.caller.Caller.TheVariants as callers;
+ghost use Rattle.desk_exports.specs.declared.reading.Reading.TheVariants as read;
 
 use crate::reader::reader_of;
 use crate::showing::is_shown_to;
 use base::Refusal;
+use desk_exports::{RequestList, Shown};
 use desk_history::VoteRow;
-use desk_types::{Person, PersonName, RequestNumber, Role, State};
+use desk_types::{Person, RequestNumber, Role, State};
 use sqlite::{Alter, Transaction};
 use std::alloc::Global;
 use store_reads::{Counted, ReadFault, count, request_numbered, votes_of};
@@ -141,29 +139,29 @@ fn events_of_all<S: Alter>(
 /// votes at a time.
 ///
 /// `UnknownCaller`: nobody has the name.
-pub fn changes_of<S: Alter>(
+pub(crate) fn changes_of<S: Alter, L: RequestList + Drop>(
     alloc: Global,
     tx: &mut Transaction<'_, S>,
     kept_person: Option<&Person>,
-    name: &PersonName,
-) -> Result<Result<u64, Refusal>, ReadFault>
+    person: &Person,
+) -> Result<Result<Shown<L>, Refusal>, ReadFault>
     ensures same_reference { tx.new.conn.ghost_name ≡ tx.old.conn.ghost_name }
     ensures value { DoesInside S.Store tx.old.conn.now tx.new.conn.now result
-        (λ given. TellsOf (λ cs. IsOneOf (option_copied kept_person.entry) (people cs)
-        → IsGiven (changes_for cs (callers.Person name.now)) given (λ due n. n ≡ due))) }
-    ensures named { IfOk result (λ given. IfErr given IsReaderRefusal) }
+        (λ given. ShowsTo L.RequestList.holds (option_copied kept_person.entry) person.now
+        read.Changes given) }
+    ensures named { RefusesAs read.Changes result }
     ensures inside { StaysInside S.Store tx.old.conn.now tx.new.conn.now result }
     ensures kept { CommitsNothing S.Store tx.old.conn.now tx.new.conn.now }
     ensures survives { Spares S.Store tx.old.conn.now tx.new.conn.now }
 {
-    let found = reader_of(alloc, tx, kept_person, name)?;
+    let found = reader_of(alloc, tx, kept_person, &person.name)?;
     let Some(reader) = found else {
         return Ok(Err(Refusal::UnknownCaller));
     };
     if !is_submitter(reader.role) {
         let calls = count(tx, Counted::Calls)?;
-        return Ok(Ok(calls));
+        return Ok(Ok(Shown::Changes(calls)));
     }
     let events = events_of_all(alloc, tx, &reader)?;
-    Ok(Ok(events))
+    Ok(Ok(Shown::Changes(events)))
 }

@@ -1,22 +1,17 @@
 //! The requests that a person is shown: all, those from a number on, and those that wait.
-ghost use Rattle.std.specs.Prelude.{◌≡◌, ◌≤◌, ◌-◌, IfErr, IfOk, min, option_copied};
-ghost use Rattle.desk_exports.specs.ListParts as part;
-ghost use Rattle.desk_history.specs.People.{people};
-ghost use Rattle.desk_history.specs.Shown.{IsGiven, requests_for};
-ghost use Rattle.store_reads.specs.People.{IsOneOf};
+ghost use Rattle.std.specs.Prelude.{◌≡◌, ◌≤◌, ◌-◌, min, option_copied};
 ghost use Rattle.store_reads.specs.Reads.{ReadsTables};
-ghost use Rattle.desk_exports.specs.Readings.{HoldsShown};
 ghost use Rattle.store_shown.specs.Choosing.{ListsUpTo, TakesNumbered};
-ghost use Rattle.store_shown.specs.Telling.{IsReaderRefusal, TellsOf};
+ghost use Rattle.store_shown.specs.Telling.{RefusesAs, ShowsTo};
 ghost use Rattle.store_sql.specs.States.{DoesInside, CommitsNothing, Spares, StaysInside};
-ghost use Rattle.desk_types.specs.declared.caller.Caller.TheVariants as callers;
+ghost use Rattle.desk_exports.specs.declared.reading.Reading.TheVariants as read;
 
 use crate::choice::{Choice, keeps_shown, picks_row};
 use crate::reader::reader_of;
 use crate::showing::shown_of;
 use base::Refusal;
-use desk_exports::RequestList;
-use desk_types::{Person, PersonName, RequestNumber};
+use desk_exports::{RequestList, Shown};
+use desk_types::{Person, RequestNumber};
 use sqlite::{Alter, Transaction};
 use std::alloc::Global;
 use store_reads::{Counted, ReadFault, count, request_numbered};
@@ -108,53 +103,51 @@ pub(crate) fn passed_before(number: u64, last: u64) -> u64
 /// desk's people (`value`). Takes memory for one request, and for the list.
 ///
 /// `UnknownCaller`: nobody has the name.
-pub fn requests_of<S: Alter, L: RequestList + Drop>(
+pub(crate) fn requests_of<S: Alter, L: RequestList + Drop>(
     alloc: Global,
     tx: &mut Transaction<'_, S>,
     kept_person: Option<&Person>,
-    name: &PersonName,
-) -> Result<Result<L, Refusal>, ReadFault>
+    person: &Person,
+) -> Result<Result<Shown<L>, Refusal>, ReadFault>
     ensures same_reference { tx.new.conn.ghost_name ≡ tx.old.conn.ghost_name }
     ensures value { DoesInside S.Store tx.old.conn.now tx.new.conn.now result
-        (λ given. TellsOf (λ cs. IsOneOf (option_copied kept_person.entry) (people cs)
-        → IsGiven (requests_for cs (callers.Person name.now)) given
-        (HoldsShown L.RequestList.holds))) }
-    ensures named { IfOk result (λ given. IfErr given IsReaderRefusal) }
+        (λ given. ShowsTo L.RequestList.holds (option_copied kept_person.entry) person.now
+        read.Requests given) }
+    ensures named { RefusesAs read.Requests result }
     ensures inside { StaysInside S.Store tx.old.conn.now tx.new.conn.now result }
     ensures kept { CommitsNothing S.Store tx.old.conn.now tx.new.conn.now }
     ensures survives { Spares S.Store tx.old.conn.now tx.new.conn.now }
 {
-    let found = reader_of(alloc, tx, kept_person, name)?;
+    let found = reader_of(alloc, tx, kept_person, &person.name)?;
     let Some(reader) = found else {
         return Ok(Err(Refusal::UnknownCaller));
     };
     let count = count(tx, Counted::Requests)?;
     let list = list_after(alloc, tx, &reader, &Choice::Shown, 0, count, count)?;
-    Ok(Ok(list))
+    Ok(Ok(Shown::Requests(list)))
 }
 
 /// Those of them with this number or a later one, at most 1,000. The rows before that number aren't
 /// read, and none after the last that is given.
 ///
 /// `UnknownCaller`: nobody has the name.
-pub fn requests_from<S: Alter, L: RequestList + Drop>(
+pub(crate) fn requests_from<S: Alter, L: RequestList + Drop>(
     alloc: Global,
     tx: &mut Transaction<'_, S>,
     kept_person: Option<&Person>,
-    name: &PersonName,
+    person: &Person,
     number: u64,
-) -> Result<Result<L, Refusal>, ReadFault>
+) -> Result<Result<Shown<L>, Refusal>, ReadFault>
     ensures same_reference { tx.new.conn.ghost_name ≡ tx.old.conn.ghost_name }
     ensures value { DoesInside S.Store tx.old.conn.now tx.new.conn.now result
-        (λ given. TellsOf (λ cs. IsOneOf (option_copied kept_person.entry) (people cs)
-        → IsGiven (part.requests_from cs (callers.Person name.now) number) given
-        (HoldsShown L.RequestList.holds))) }
-    ensures named { IfOk result (λ given. IfErr given IsReaderRefusal) }
+        (λ given. ShowsTo L.RequestList.holds (option_copied kept_person.entry) person.now
+        (read.RequestsFrom number) given) }
+    ensures named { RefusesAs (read.RequestsFrom number) result }
     ensures inside { StaysInside S.Store tx.old.conn.now tx.new.conn.now result }
     ensures kept { CommitsNothing S.Store tx.old.conn.now tx.new.conn.now }
     ensures survives { Spares S.Store tx.old.conn.now tx.new.conn.now }
 {
-    let found = reader_of(alloc, tx, kept_person, name)?;
+    let found = reader_of(alloc, tx, kept_person, &person.name)?;
     let Some(reader) = found else {
         return Ok(Err(Refusal::UnknownCaller));
     };
@@ -169,5 +162,5 @@ pub fn requests_from<S: Alter, L: RequestList + Drop>(
         count,
         MOST_OF_PART,
     )?;
-    Ok(Ok(list))
+    Ok(Ok(Shown::Requests(list)))
 }

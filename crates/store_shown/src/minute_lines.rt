@@ -1,21 +1,18 @@
 //! The minutes from a number on, as an officer is shown them.
-ghost use Rattle.std.specs.Prelude.{◌≡◌, ◌≤◌, ◌-◌, ◌++◌, IfErr, IfOk, OnOk, min, option_copied};
-ghost use Rattle.desk_exports.specs.MinutesShown.{minutes_for};
+ghost use Rattle.std.specs.Prelude.{◌≡◌, ◌≤◌, ◌-◌, ◌++◌, OnOk, min, option_copied};
 ghost use Rattle.desk_history.specs.Limits.{most_calls};
-ghost use Rattle.desk_history.specs.People.{people};
-ghost use Rattle.desk_history.specs.Shown.{IsGiven};
-ghost use Rattle.store_reads.specs.People.{IsOneOf};
 ghost use Rattle.store_reads.specs.Reads.{ReadsTables};
 ghost use Rattle.store_shown.specs.Lines.{HasLines, IsLineOf, line_of};
-ghost use Rattle.store_shown.specs.Telling.{IsOfficerRefusal, TellsOf};
+ghost use Rattle.store_shown.specs.Telling.{RefusesAs, ShowsTo, TellsOf};
 ghost use Rattle.store_sql.specs.States.{DoesInside, CommitsNothing, Spares, StaysInside};
-ghost use Rattle.desk_types.specs.declared.caller.Caller.TheVariants as callers;
+ghost use Rattle.desk_exports.specs.declared.reading.Reading.TheVariants as read;
 
 use crate::listing::MOST_OF_PART;
 use crate::officer::officer_of;
 use base::{Refusal, put_each};
+use desk_exports::{Octets, RequestList, Shown};
 use desk_history::MOST_CALLS;
-use desk_types::{Person, PersonName};
+use desk_types::Person;
 use itoa::Buffer;
 use sqlite::{Alter, Transaction};
 use std::alloc::Global;
@@ -113,27 +110,27 @@ pub fn line_numbered<S: Alter>(
 ///
 /// `UnknownCaller`: nobody has the name. `NotYourRole`: the person isn't an officer, and no call is
 /// read.
-pub fn minutes_from<S: Alter>(
+pub(crate) fn minutes_from<S: Alter, L: RequestList + Drop>(
     alloc: Global,
     tx: &mut Transaction<'_, S>,
     kept_person: Option<&Person>,
-    name: &PersonName,
+    person: &Person,
     number: u64,
-) -> Result<Result<Vec<u8>, Refusal>, ReadFault>
+) -> Result<Result<Shown<L>, Refusal>, ReadFault>
     ensures same_reference { tx.new.conn.ghost_name ≡ tx.old.conn.ghost_name }
     ensures value { DoesInside S.Store tx.old.conn.now tx.new.conn.now result
-        (λ given. TellsOf (λ cs. IsOneOf (option_copied kept_person.entry) (people cs)
-        → IsGiven (minutes_for cs (callers.Person name.now) number) given
-        (λ lines text. text.items ≡ lines))) }
-    ensures named { IfOk result (λ given. IfErr given IsOfficerRefusal) }
+        (λ given. ShowsTo L.RequestList.holds (option_copied kept_person.entry) person.now
+        (read.Minutes number) given) }
+    ensures named { RefusesAs (read.Minutes number) result }
     ensures inside { StaysInside S.Store tx.old.conn.now tx.new.conn.now result }
     ensures kept { CommitsNothing S.Store tx.old.conn.now tx.new.conn.now }
     ensures survives { Spares S.Store tx.old.conn.now tx.new.conn.now }
 {
-    let officer = officer_of(alloc, tx, kept_person, name)?;
+    let officer = officer_of(alloc, tx, kept_person, &person.name)?;
     if let Err(refusal) = officer {
         return Ok(Err(refusal));
     }
     let text = lines_after(alloc, tx, calls_before(number))?;
-    Ok(Ok(text))
+    let lines = Octets::new(text);
+    Ok(Ok(Shown::Minutes(lines)))
 }

@@ -1,17 +1,14 @@
 //! The proposals, all or from a number on, as an officer is shown them.
-ghost use Rattle.std.specs.Prelude.{◌≡◌, IfErr, IfOk, map, option_copied};
-ghost use Rattle.desk_exports.specs.ListParts as part;
-ghost use Rattle.desk_history.specs.People.{people};
-ghost use Rattle.desk_history.specs.Shown.{IsGiven, proposals_for, shown_proposal};
-ghost use Rattle.store_reads.specs.People.{IsOneOf};
-ghost use Rattle.store_shown.specs.Telling.{IsOfficerRefusal, TellsOf};
+ghost use Rattle.std.specs.Prelude.{◌≡◌, option_copied};
+ghost use Rattle.store_shown.specs.Telling.{RefusesAs, ShowsTo};
 ghost use Rattle.store_sql.specs.States.{DoesInside, CommitsNothing, Spares, StaysInside};
-ghost use Rattle.desk_types.specs.declared.caller.Caller.TheVariants as callers;
+ghost use Rattle.desk_exports.specs.declared.reading.Reading.TheVariants as read;
 
 use crate::listing::{MOST_OF_PART, passed_before};
 use crate::officer::officer_of;
 use base::Refusal;
-use desk_types::{Person, PersonName, Proposal};
+use desk_exports::{RequestList, Shown, ShownProposals};
+use desk_types::Person;
 use sqlite::{Alter, Transaction};
 use std::alloc::Global;
 use store_proposals::{proposals, proposals_after, proposals_are_listable};
@@ -23,29 +20,29 @@ use store_reads::{Counted, ReadFault, count};
 ///
 /// `UnknownCaller`: nobody has the name. `NotYourRole`: the person isn't an officer, and no
 /// proposal is read.
-pub fn proposals_of<S: Alter>(
+pub(crate) fn proposals_of<S: Alter, L: RequestList + Drop>(
     alloc: Global,
     tx: &mut Transaction<'_, S>,
     kept_person: Option<&Person>,
-    name: &PersonName,
-) -> Result<Result<Vec<Proposal>, Refusal>, ReadFault>
+    person: &Person,
+) -> Result<Result<Shown<L>, Refusal>, ReadFault>
     ensures same_reference { tx.new.conn.ghost_name ≡ tx.old.conn.ghost_name }
     ensures value { DoesInside S.Store tx.old.conn.now tx.new.conn.now result
-        (λ given. TellsOf (λ cs. IsOneOf (option_copied kept_person.entry) (people cs)
-        → IsGiven (proposals_for cs (callers.Person name.now)) given
-        (λ ps shown. shown.items ≡ map (shown_proposal cs) ps))) }
-    ensures named { IfOk result (λ given. IfErr given IsOfficerRefusal) }
+        (λ given. ShowsTo L.RequestList.holds (option_copied kept_person.entry) person.now
+        read.Proposals given) }
+    ensures named { RefusesAs read.Proposals result }
     ensures inside { StaysInside S.Store tx.old.conn.now tx.new.conn.now result }
     ensures kept { CommitsNothing S.Store tx.old.conn.now tx.new.conn.now }
     ensures survives { Spares S.Store tx.old.conn.now tx.new.conn.now }
 {
     proposals_are_listable();
-    let officer = officer_of(alloc, tx, kept_person, name)?;
+    let officer = officer_of(alloc, tx, kept_person, &person.name)?;
     if let Err(refusal) = officer {
         return Ok(Err(refusal));
     }
-    let shown = proposals(alloc, tx)?;
-    Ok(Ok(shown))
+    let found = proposals(alloc, tx)?;
+    let shown = ShownProposals::new(found);
+    Ok(Ok(Shown::Proposals(shown)))
 }
 
 /// Those of them with this number or a later one, at most 1,000. The proposals before that number
@@ -53,30 +50,30 @@ pub fn proposals_of<S: Alter>(
 ///
 /// `UnknownCaller`: nobody has the name. `NotYourRole`: the person isn't an officer, and no
 /// proposal is read.
-pub fn proposals_from<S: Alter>(
+pub(crate) fn proposals_from<S: Alter, L: RequestList + Drop>(
     alloc: Global,
     tx: &mut Transaction<'_, S>,
     kept_person: Option<&Person>,
-    name: &PersonName,
+    person: &Person,
     number: u64,
-) -> Result<Result<Vec<Proposal>, Refusal>, ReadFault>
+) -> Result<Result<Shown<L>, Refusal>, ReadFault>
     ensures same_reference { tx.new.conn.ghost_name ≡ tx.old.conn.ghost_name }
     ensures value { DoesInside S.Store tx.old.conn.now tx.new.conn.now result
-        (λ given. TellsOf (λ cs. IsOneOf (option_copied kept_person.entry) (people cs)
-        → IsGiven (part.proposals_from cs (callers.Person name.now) number) given
-        (λ ps shown. shown.items ≡ map (shown_proposal cs) ps))) }
-    ensures named { IfOk result (λ given. IfErr given IsOfficerRefusal) }
+        (λ given. ShowsTo L.RequestList.holds (option_copied kept_person.entry) person.now
+        (read.ProposalsFrom number) given) }
+    ensures named { RefusesAs (read.ProposalsFrom number) result }
     ensures inside { StaysInside S.Store tx.old.conn.now tx.new.conn.now result }
     ensures kept { CommitsNothing S.Store tx.old.conn.now tx.new.conn.now }
     ensures survives { Spares S.Store tx.old.conn.now tx.new.conn.now }
 {
     proposals_are_listable();
-    let officer = officer_of(alloc, tx, kept_person, name)?;
+    let officer = officer_of(alloc, tx, kept_person, &person.name)?;
     if let Err(refusal) = officer {
         return Ok(Err(refusal));
     }
     let count = count(tx, Counted::Proposals)?;
     let passed = passed_before(number, count);
-    let shown = proposals_after(alloc, tx, None, passed, count, MOST_OF_PART)?;
-    Ok(Ok(shown))
+    let found = proposals_after(alloc, tx, None, passed, count, MOST_OF_PART)?;
+    let shown = ShownProposals::new(found);
+    Ok(Ok(Shown::Proposals(shown)))
 }

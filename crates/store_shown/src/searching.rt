@@ -1,23 +1,18 @@
 //! The requests that have a digest.
-ghost use Rattle.std.specs.Prelude.{◌≡◌, All, IfErr, IfOk, OnOk, option_copied};
-ghost use Rattle.desk_exports.specs.DigestSearch as search;
-ghost use Rattle.desk_exports.specs.Readings.{HoldsShown};
-ghost use Rattle.desk_history.specs.People.{people};
-ghost use Rattle.desk_history.specs.Shown.{IsGiven};
-ghost use Rattle.store_reads.specs.People.{IsOneOf};
+ghost use Rattle.std.specs.Prelude.{◌≡◌, All, OnOk, option_copied};
 ghost use Rattle.store_reads.specs.Reads.{ReadsTables};
 ghost use Rattle.store_shown.specs.Searching.{AreMarked, FindsUpTo, KeepsMarks, MarksAll, MarksColumn};
 ghost use Rattle.store_shown.specs.Searching.{TakesMarked, is_marked};
-ghost use Rattle.store_shown.specs.Telling.{IsReaderRefusal, TellsOf};
+ghost use Rattle.store_shown.specs.Telling.{RefusesAs, ShowsTo};
 ghost use Rattle.store_sql.specs.States.{DoesInside, CommitsNothing, Spares, StaysInside};
-ghost use Rattle.desk_types.specs.declared.caller.Caller.TheVariants as callers;
+ghost use Rattle.desk_exports.specs.declared.reading.Reading.TheVariants as read;
 
 use crate::choice::Choice;
 use crate::listing::{MOST_OF_PART, take_numbered};
 use crate::reader::reader_of;
 use base::{Digest, Refusal};
-use desk_exports::RequestList;
-use desk_types::{Person, PersonName, RequestNumber};
+use desk_exports::{RequestList, Shown};
+use desk_types::{Person, RequestNumber};
 use sqlite::{Alter, Transaction};
 use std::alloc::Global;
 use store_reads::{Counted, DigestColumn, ReadFault, count, numbers_with};
@@ -189,24 +184,23 @@ fn list_marked<S: Alter, L: RequestList + Drop>(
 /// desk, for the numbers that one column gives, for one request, and for the list.
 ///
 /// `UnknownCaller`: nobody has the name.
-pub fn requests_with<S: Alter, L: RequestList + Drop>(
+pub(crate) fn requests_with<S: Alter, L: RequestList + Drop>(
     alloc: Global,
     tx: &mut Transaction<'_, S>,
     kept_person: Option<&Person>,
-    name: &PersonName,
+    person: &Person,
     digest: &Digest,
-) -> Result<Result<L, Refusal>, ReadFault>
+) -> Result<Result<Shown<L>, Refusal>, ReadFault>
     ensures same_reference { tx.new.conn.ghost_name ≡ tx.old.conn.ghost_name }
     ensures value { DoesInside S.Store tx.old.conn.now tx.new.conn.now result
-        (λ given. TellsOf (λ cs. IsOneOf (option_copied kept_person.entry) (people cs)
-        → IsGiven (search.requests_with cs (callers.Person name.now) digest.now) given
-        (HoldsShown L.RequestList.holds))) }
-    ensures named { IfOk result (λ given. IfErr given IsReaderRefusal) }
+        (λ given. ShowsTo L.RequestList.holds (option_copied kept_person.entry) person.now
+        (read.RequestsWith digest.now) given) }
+    ensures named { RefusesAs (read.RequestsWith digest.now) result }
     ensures inside { StaysInside S.Store tx.old.conn.now tx.new.conn.now result }
     ensures kept { CommitsNothing S.Store tx.old.conn.now tx.new.conn.now }
     ensures survives { Spares S.Store tx.old.conn.now tx.new.conn.now }
 {
-    let found = reader_of(alloc, tx, kept_person, name)?;
+    let found = reader_of(alloc, tx, kept_person, &person.name)?;
     let Some(reader) = found else {
         return Ok(Err(Refusal::UnknownCaller));
     };
@@ -215,5 +209,5 @@ pub fn requests_with<S: Alter, L: RequestList + Drop>(
     let choice = Choice::With(*digest);
     let flags = marks.as_slice();
     let list = list_marked(alloc, tx, &reader, &choice, flags, count, MOST_OF_PART)?;
-    Ok(Ok(list))
+    Ok(Ok(Shown::Requests(list)))
 }

@@ -1,20 +1,19 @@
 //! Requests, as a person is shown them.
-ghost use Rattle.std.specs.Prelude.{◌≡◌, IfErr, IfOk, bytes_eq, option_copied};
-ghost use Rattle.desk_history.specs.People.{people};
-ghost use Rattle.desk_history.specs.Shown.{GivesRequest, sees};
-ghost use Rattle.store_reads.specs.People.{IsOneOf};
+ghost use Rattle.std.specs.Prelude.{◌≡◌, bytes_eq, option_copied};
+ghost use Rattle.desk_history.specs.Shown.{sees};
 ghost use Rattle.store_reads.specs.Reads.{ReadsTables};
 ghost use Rattle.store_shown.specs.Steps.{IsShownIn, visible_row};
-ghost use Rattle.store_shown.specs.Telling.{IsRequestRefusal, TellsOf};
+ghost use Rattle.store_shown.specs.Telling.{RefusesAs, ShowsTo};
 ghost use Rattle.store_sql.specs.States.{DoesInside, CommitsNothing, Spares, StaysInside};
-ghost use Rattle.desk_types.specs.declared.caller.Caller.TheVariants as callers;
+ghost use Rattle.desk_exports.specs.declared.reading.Reading.TheVariants as read;
 
 use crate::making::made_of;
 use crate::parts::parts_of;
 use crate::reader::reader_of;
 use base::Refusal;
+use desk_exports::{RequestList, Shown};
 use desk_history::RequestRow;
-use desk_types::{Person, PersonName, RequestNumber, Role, ShownRequest};
+use desk_types::{Person, RequestNumber, Role, ShownRequest};
 use sqlite::{Alter, Transaction};
 use std::alloc::Global;
 use store_reads::{ReadFault, request_numbered};
@@ -66,23 +65,23 @@ fn row_for(reader: &Person, row: Option<RequestRow>) -> Option<RequestRow>
 ///
 /// `UnknownCaller`: nobody has the name. `NoSuchRequest`: no request has the number, or it belongs
 /// to someone else and the person is a submitter; then none of its other rows is read.
-pub fn request<S: Alter>(
+pub(crate) fn request<S: Alter, L: RequestList + Drop>(
     alloc: Global,
     tx: &mut Transaction<'_, S>,
     kept_person: Option<&Person>,
-    name: &PersonName,
+    person: &Person,
     number: RequestNumber,
-) -> Result<Result<ShownRequest, Refusal>, ReadFault>
+) -> Result<Result<Shown<L>, Refusal>, ReadFault>
     ensures same_reference { tx.new.conn.ghost_name ≡ tx.old.conn.ghost_name }
     ensures value { DoesInside S.Store tx.old.conn.now tx.new.conn.now result
-        (λ given. TellsOf (λ cs. IsOneOf (option_copied kept_person.entry) (people cs)
-        → GivesRequest cs (callers.Person name.now) number given)) }
-    ensures named { IfOk result (λ given. IfErr given IsRequestRefusal) }
+        (λ given. ShowsTo L.RequestList.holds (option_copied kept_person.entry) person.now
+        (read.Request number) given) }
+    ensures named { RefusesAs (read.Request number) result }
     ensures inside { StaysInside S.Store tx.old.conn.now tx.new.conn.now result }
     ensures kept { CommitsNothing S.Store tx.old.conn.now tx.new.conn.now }
     ensures survives { Spares S.Store tx.old.conn.now tx.new.conn.now }
 {
-    let found = reader_of(alloc, tx, kept_person, name)?;
+    let found = reader_of(alloc, tx, kept_person, &person.name)?;
     let Some(reader) = found else {
         return Ok(Err(Refusal::UnknownCaller));
     };
@@ -91,5 +90,5 @@ pub fn request<S: Alter>(
         return Ok(Err(Refusal::NoSuchRequest));
     };
     let shown = shown_of(alloc, tx, row)?;
-    Ok(Ok(shown))
+    Ok(Ok(Shown::Request(shown)))
 }

@@ -1,24 +1,18 @@
 //! What waits for a person.
-ghost use Rattle.std.specs.Prelude.{◌≡◌, IfErr, IfOk, Some, length, option_copied};
-ghost use Rattle.desk_history.specs.People.{people};
-ghost use Rattle.desk_history.specs.Shown.{IsGiven};
-ghost use Rattle.desk_exports.specs.Waiting.{waiting_for};
+ghost use Rattle.std.specs.Prelude.{◌≡◌, Some, length, option_copied};
 ghost use Rattle.store_proposals.specs.Numbered as numbered;
-ghost use Rattle.store_reads.specs.People.{IsOneOf};
 ghost use Rattle.store_reads.specs.Reads.{ReadsTables};
 ghost use Rattle.store_shown.specs.Choosing.{ListsUpTo};
-ghost use Rattle.store_shown.specs.Telling.{IsReaderRefusal, TellsOf};
-ghost use Rattle.store_shown.specs.Waits.{ShowsWaiting};
+ghost use Rattle.store_shown.specs.Telling.{RefusesAs, ShowsTo};
 ghost use Rattle.store_sql.specs.States.{DoesInside, CommitsNothing, Spares, StaysInside};
-ghost use Rattle.desk_types.specs.declared.caller.Caller.TheVariants as callers;
+ghost use Rattle.desk_exports.specs.declared.reading.Reading.TheVariants as read;
 
 use crate::choice::Choice;
 use crate::listing::list_after;
 use crate::officer::is_officer;
 use crate::reader::reader_of;
-use crate::waits::Waits;
 use base::Refusal;
-use desk_exports::RequestList;
+use desk_exports::{RequestList, Shown, ShownProposals};
 use desk_types::{Person, PersonName, Proposal};
 use sqlite::{Alter, Transaction};
 use std::alloc::Global;
@@ -70,39 +64,34 @@ fn proposals_for<S: Alter>(
 /// import at a time, and for the lists.
 ///
 /// `UnknownCaller`: nobody has the name.
-pub fn waiting_of<S: Alter, L: RequestList + Drop>(
+pub(crate) fn waiting_of<S: Alter, L: RequestList + Drop>(
     alloc: Global,
     tx: &mut Transaction<'_, S>,
     kept_person: Option<&Person>,
-    name: &PersonName,
-) -> Result<Result<Waits<L>, Refusal>, ReadFault>
+    person: &Person,
+) -> Result<Result<Shown<L>, Refusal>, ReadFault>
     ensures same_reference { tx.new.conn.ghost_name ≡ tx.old.conn.ghost_name }
     ensures value { DoesInside S.Store tx.old.conn.now tx.new.conn.now result
-        (λ given. TellsOf (λ cs. IsOneOf (option_copied kept_person.entry) (people cs)
-        → IsGiven (waiting_for cs (callers.Person name.now)) given
-        (ShowsWaiting L.RequestList.holds cs))) }
-    ensures named { IfOk result (λ given. IfErr given IsReaderRefusal) }
+        (λ given. ShowsTo L.RequestList.holds (option_copied kept_person.entry) person.now
+        read.Waiting given) }
+    ensures named { RefusesAs read.Waiting result }
     ensures inside { StaysInside S.Store tx.old.conn.now tx.new.conn.now result }
     ensures kept { CommitsNothing S.Store tx.old.conn.now tx.new.conn.now }
     ensures survives { Spares S.Store tx.old.conn.now tx.new.conn.now }
 {
     proposals_are_listable();
-    let found = reader_of(alloc, tx, kept_person, name)?;
+    let found = reader_of(alloc, tx, kept_person, &person.name)?;
     let Some(reader) = found else {
         return Ok(Err(Refusal::UnknownCaller));
     };
     if is_officer(reader.role) {
         let requests = L::new(alloc);
-        let proposals = proposals_for(alloc, tx, &reader.name)?;
-        return Ok(Ok(Waits {
-            requests,
-            proposals,
-        }));
+        let waiting = proposals_for(alloc, tx, &reader.name)?;
+        let proposals = ShownProposals::new(waiting);
+        return Ok(Ok(Shown::Waiting(requests, proposals)));
     }
     let requests = requests_for(alloc, tx, &reader)?;
-    let proposals = Vec::new(alloc);
-    Ok(Ok(Waits {
-        requests,
-        proposals,
-    }))
+    let none = Vec::new(alloc);
+    let proposals = ShownProposals::new(none);
+    Ok(Ok(Shown::Waiting(requests, proposals)))
 }

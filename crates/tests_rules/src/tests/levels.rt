@@ -3,12 +3,12 @@ use super::inputs::unbarred;
 use super::{Call, check, is_beginning, narrow, refuse};
 use sbat::{
     Component, ComponentName, Generation, Level, SbatFault, Stamp, level_head, level_row,
-    read_level, write_level,
+    read_level,
 };
 use std::alloc::{AllocError, Global};
 use std::fmt::Write;
-use std::str;
 use std::test::Fail;
+use std::{io, str};
 
 /// Texts, and the levels in them as they are written.
 const LEVELS: &str = "\
@@ -35,10 +35,20 @@ sbat,1,2024010100|grub,2||shim,0| = SbatRow at 4
 sbat,1,2024010100|,2| = SbatRow at 2
 ";
 
+/// Writes a level line by line, as an export does.
+fn put_level<W: io::Write>(alloc: Global, level: &Level, writer: &mut W) -> Option<()> {
+    level_head(level.stamp(), writer).ok()?;
+    for (name, generation) in level.iter() {
+        let name = ComponentName::parse(alloc, name.as_bytes()).ok()?;
+        level_row(&name, generation, writer).ok()?;
+    }
+    Some(())
+}
+
 /// Appends the text of a level, each line ended by `;`.
 fn tell_level(alloc: Global, told: &mut String, level: &Level) -> Result<(), Fail> {
     let mut text = Vec::new(alloc);
-    write_level(level, &mut text)?;
+    put_level(alloc, level, &mut text).ok_or("a level")?;
     for byte in text.iter_mut() {
         if *byte == b'\n' {
             *byte = b';';
@@ -110,7 +120,7 @@ fn keeps_the_greater_generation(rt: HostRuntime) -> Result<(), Fail> {
     raise(rt.alloc(), &mut level, 10)?;
     raise(rt.alloc(), &mut level, 9)?;
     let mut text = Vec::new(rt.alloc());
-    write_level(&level, &mut text)?;
+    put_level(rt.alloc(), &level, &mut text).ok_or("a level")?;
     assert!(rt; text.as_slice() == b"sbat,1,2021030218\ngrub,10\n".as_slice());
     assert!(rt; generation_of(&level, b"grub") == 10);
     assert!(rt; generation_of(&level, b"\xff") == 0, "no name at all");
@@ -124,38 +134,12 @@ fn writes_a_beginning_before_each_failed_write(rt: HostRuntime) -> Result<(), Fa
     let mut last = 0;
     for fails_at in 1..100 {
         let mut writer = narrow(rt.alloc(), 3, fails_at);
-        let is_whole = write_level(&level, &mut writer).is_ok();
+        let is_whole = put_level(rt.alloc(), &level, &mut writer).is_some();
         assert!(rt; is_beginning(&writer.taken, text, is_whole));
         if !is_whole {
             last = fails_at;
         }
     }
     assert!(rt; 11 <= last && last < 99, "so many writes");
-    Ok(())
-}
-
-/// A stamp and a generation.
-#[derive(Clone, Copy)]
-struct Numbers {
-    stamp: Stamp,
-    generation: Generation,
-}
-
-/// A stamp, and the greatest generation.
-fn greatest() -> Option<Numbers> {
-    Some(Numbers {
-        stamp: Stamp::parse(b"2024010100")?,
-        generation: Generation::parse(b"4294967295")?,
-    })
-}
-
-#[test]
-fn writes_levels_line_by_line(rt: HostRuntime) -> Result<(), Fail> {
-    let numbers = greatest().ok_or("a stamp and a generation")?;
-    let name = ComponentName::parse(rt.alloc(), b"grub")?;
-    let mut text = Vec::new(rt.alloc());
-    level_head(numbers.stamp, &mut text)?;
-    level_row(&name, numbers.generation, &mut text)?;
-    assert!(rt; text.as_slice() == b"sbat,1,2024010100\ngrub,4294967295\n".as_slice());
     Ok(())
 }

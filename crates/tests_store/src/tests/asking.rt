@@ -1,8 +1,8 @@
 //! Questions to a desk, read from lines, and its answers in words. Each function makes one call of
 //! the desk: a proof that carries the contracts of several takes minutes.
 use super::line::Line;
-use super::parts::{changes, proposals_from, requests_from, requests_with, waiting};
-use super::telling::{put_requests, told};
+use super::parts::put_reading;
+use super::telling::told;
 use super::*;
 
 /// Gives the desk one call.
@@ -82,19 +82,6 @@ fn asked<S: Alter + Drop>(alloc: Global, desk: &mut Desk<S>, given: &str) -> Opt
     both(alloc, desk, &call)
 }
 
-/// All requests that the person is shown.
-fn all_shown<S: Alter + Drop>(
-    desk: &mut Desk<S>,
-    words: &mut Words,
-    line: &mut Line,
-) -> Option<()> {
-    let name = words.name()?;
-    match desk.requests_of::<Vec<ShownRequest>>(&name) {
-        Ok(requests) => put_requests(line, &requests).ok(),
-        Err(refusal) => line.put(refusal.name()).ok(),
-    }
-}
-
 /// Puts the text, if there is one.
 fn put_told(line: &mut Line, told: Option<String>) -> Option<()> {
     line.put(told?.as_str()).ok()
@@ -111,12 +98,9 @@ fn put_answer<S: Alter + Drop>(
     let mut words = Words::new(alloc, rest);
     match verb {
         "alone" => put_told(line, answered(alloc, desk, rest)),
-        "lists" => all_shown(desk, &mut words, line),
-        "requests" => requests_from(desk, &mut words, line),
-        "with" => requests_with(desk, &mut words, line),
-        "proposals" => proposals_from(desk, &mut words, line),
-        "waits" => waiting(desk, &mut words, line),
-        "changes" => changes(desk, &mut words, line),
+        "lists" | "requests" | "with" | "proposals" | "waits" | "changes" => {
+            put_reading(desk, verb, &mut words, line)
+        }
         _ => put_told(line, asked(alloc, desk, given)),
     }
 }

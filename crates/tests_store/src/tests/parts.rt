@@ -1,17 +1,24 @@
-//! Lists in parts, requests by a digest, what waits, and the number that tells of changes, each read
-//! from a line and told in words.
+//! What people are shown of a desk, each reading read from a line and told in words.
 use super::line::Line;
+use super::telling::put_requests;
 use super::*;
+use desk_exports::{Reading, Shown};
 
-/// The person who is named, and a number.
-fn named(words: &mut Words) -> Option<(PersonName, u64)> {
-    let name = words.name()?;
-    let number = words.number()?;
-    Some((name, number))
+/// What a verb and the words behind the name ask to read.
+fn reading(verb: &str, words: &mut Words) -> Option<Reading> {
+    match verb {
+        "lists" => Some(Reading::Requests),
+        "requests" => Some(Reading::RequestsFrom(words.number()?)),
+        "with" => Some(Reading::RequestsWith(words.digest()?)),
+        "proposals" => Some(Reading::ProposalsFrom(words.number()?)),
+        "waits" => Some(Reading::Waiting),
+        "changes" => Some(Reading::Changes),
+        _ => None,
+    }
 }
 
 /// How many requests there are, and the numbers of the first and the last.
-fn put_requests(line: &mut Line, requests: &[ShownRequest]) -> Option<()> {
+fn put_ends(line: &mut Line, requests: &[ShownRequest]) -> Option<()> {
     line.number(requests.len() as u64).ok()?;
     if let Some(first) = requests.first() {
         line.number(first.number.value()).ok()?;
@@ -31,77 +38,64 @@ fn put_proposals(line: &mut Line, proposals: &[Proposal]) -> Option<()> {
     Some(())
 }
 
-/// The requests from a number on.
-pub(super) fn requests_from<S: Alter + Drop>(
-    desk: &mut Desk<S>,
-    words: &mut Words,
-    line: &mut Line,
-) -> Option<()> {
-    let (name, number) = named(words)?;
-    match desk.requests_from::<Vec<ShownRequest>>(&name, number) {
-        Ok(requests) => put_requests(line, &requests),
-        Err(refusal) => line.put(refusal.name()).ok(),
-    }
-}
-
-/// The requests with a digest.
-pub(super) fn requests_with<S: Alter + Drop>(
-    desk: &mut Desk<S>,
-    words: &mut Words,
-    line: &mut Line,
-) -> Option<()> {
-    let name = words.name()?;
-    let digest = words.digest()?;
-    match desk.requests_with::<Vec<ShownRequest>>(&name, &digest) {
-        Ok(requests) => put_requests(line, &requests),
-        Err(refusal) => line.put(refusal.name()).ok(),
-    }
-}
-
-/// The proposals from a number on.
-pub(super) fn proposals_from<S: Alter + Drop>(
-    desk: &mut Desk<S>,
-    words: &mut Words,
-    line: &mut Line,
-) -> Option<()> {
-    let (name, number) = named(words)?;
-    match desk.proposals_from(&name, number) {
-        Ok(proposals) => put_proposals(line, &proposals),
-        Err(refusal) => line.put(refusal.name()).ok(),
-    }
-}
-
 /// The number of each request, and then the proposals.
-fn put_waits(line: &mut Line, waits: &Waits<Vec<ShownRequest>>) -> Option<()> {
-    for request in &waits.requests {
+fn put_waits(line: &mut Line, requests: &[ShownRequest], proposals: &[Proposal]) -> Option<()> {
+    for request in requests {
         line.number(request.number.value()).ok()?;
     }
     line.put("and").ok()?;
-    put_proposals(line, &waits.proposals)
+    put_proposals(line, proposals)
 }
 
-/// What waits.
-pub(super) fn waiting<S: Alter + Drop>(
-    desk: &mut Desk<S>,
-    words: &mut Words,
-    line: &mut Line,
-) -> Option<()> {
-    let name = words.name()?;
-    match desk.waiting::<Vec<ShownRequest>>(&name) {
-        Ok(waits) => put_waits(line, &waits),
-        Err(refusal) => line.put(refusal.name()).ok(),
+/// What is shown; `lists` tells all of each request.
+fn put_shown(line: &mut Line, verb: &str, shown: Shown<Vec<ShownRequest>>) -> Option<()> {
+    match shown {
+        Shown::Requests(requests) => {
+            if verb == "lists" {
+                put_requests(line, &requests).ok()
+            } else {
+                put_ends(line, &requests)
+            }
+        }
+        Shown::Proposals(proposals) => put_proposals(line, proposals.as_slice()),
+        Shown::Waiting(requests, proposals) => put_waits(line, &requests, proposals.as_slice()),
+        Shown::Changes(number) => line.number(number).ok(),
+        Shown::Request(_)
+        | Shown::Proposal(_)
+        | Shown::Impact(_, _)
+        | Shown::Export(_, _)
+        | Shown::Report(_)
+        | Shown::Minutes(_)
+        | Shown::People(_)
+        | Shown::Me(_) => None,
     }
 }
 
-/// The number that tells of changes.
-pub(super) fn changes<S: Alter + Drop>(
+/// What the person is shown by a reading of rows, for which only the name counts.
+fn shown<S: Alter + Drop>(
     desk: &mut Desk<S>,
+    name: PersonName,
+    reading: Reading,
+) -> Result<Shown<Vec<ShownRequest>>, Refusal> {
+    let person = Person {
+        name,
+        role: Role::Submitter,
+        token: Digest::from([0; 32]),
+    };
+    desk.read(person, reading)
+}
+
+/// Puts what the person who is named is shown by the reading of a verb.
+pub(super) fn put_reading<S: Alter + Drop>(
+    desk: &mut Desk<S>,
+    verb: &str,
     words: &mut Words,
     line: &mut Line,
 ) -> Option<()> {
     let name = words.name()?;
-    match desk.changes(&name) {
-        Ok(number) => line.number(number).ok(),
+    let reading = reading(verb, words)?;
+    match shown(desk, name, reading) {
+        Ok(shown) => put_shown(line, verb, shown),
         Err(refusal) => line.put(refusal.name()).ok(),
     }
 }

@@ -5,9 +5,9 @@ use super::founding::made;
 use super::*;
 use desk_exports::{AnswersCalls, Octets, Published, Reading, Shown};
 use desk_inputs::token_digest;
-use desk_types::{Caller, Command, Key, PersonName, Role};
+use desk_types::{Caller, Command, Key};
 use http_calls::{Task, TaskAnswer, TaskAsked, answer};
-use http_exchange::serve_each;
+use http_exchange::{RequestReader, serve_one};
 use http_requests::Routes;
 use testing::bytes_of;
 
@@ -113,26 +113,36 @@ fn joined(alloc: Global, texts: &[Octets]) -> Result<Vec<u8>, AllocError> {
     Ok(all)
 }
 
-/// Whether each of the requests is served.
-fn are_served<D: AnswersCalls>(
+/// Whether a request is served, as a connection of its own.
+fn is_served<D: AnswersCalls>(
     alloc: Global,
     routes: &Routes,
     desk: &mut D,
-    inputs: &[Octets],
+    input: &Octets,
     writer: &mut Vec<u8>,
 ) -> bool {
-    serve_each(alloc, routes, desk, inputs, writer) >= inputs.len()
+    let mut reader = input.as_slice();
+    serve_one(
+        alloc,
+        routes,
+        desk,
+        &mut reader,
+        &mut RequestReader::new(),
+        writer,
+    )
+    .is_ok()
 }
 
 /// The responses to the requests, one after another, if each is served.
 fn served_each<D: AnswersCalls>(alloc: Global, desk: &mut D, inputs: &[Octets]) -> Option<Vec<u8>> {
     let routes = Routes::new(alloc).ok()?;
     let mut writer = Vec::new(alloc);
-    if are_served(alloc, &routes, desk, inputs, &mut writer) {
-        Some(writer)
-    } else {
-        None
+    for input in inputs {
+        if !is_served(alloc, &routes, desk, input, &mut writer) {
+            return None;
+        }
     }
+    Some(writer)
 }
 
 /// The question of this line's person for the level.

@@ -3,11 +3,12 @@ use Rattle.std.specs.Prelude.{option_copied}
 use Rattle.sqlite.specs.Held.{state}
 use Rattle.sqlite.specs.State.{HasCleanDisk}
 use Rattle.base.specs.declared.refusal.Refusal.TheVariants as refusals
-use Rattle.desk_types.specs.declared.caller.Caller.TheVariants as callers
-use Rattle.desk_history.specs.Shown.{IsGiven, requests_for}
+use Rattle.desk_exports.specs.declared.reading.Reading.TheVariants as read
+use Rattle.desk_exports.specs.declared.shown.Shown.TheVariants as answers
 use Rattle.store_reads.specs.Reads.{ReadsTables}
 use Rattle.store_reads.proofs.TellsLemmas.{tells_then}
-use Rattle.desk_exports.specs.Readings.{HoldsShown}
+use Rattle.desk_exports.specs.Readings.{GivesRequests}
+use Rattle.store_shown.specs.Telling.{IsDue}
 use Rattle.store_shown.specs.Choosing.{ListsUpTo}
 use Rattle.store_shown.specs.declared.choice.Choice.TheVariants as choices
 use Rattle.store_shown.proofs.ListingLemmas.{gives_all, gives_nobody}
@@ -16,17 +17,19 @@ use Rattle.store_shown.proofs.listing.requests_of.Goals as goal
 
 pub returns-in_default-clause-value : goal.returns-in_default-clause-value
 returns-in_default-clause-value g c clean inside =
-    let name = c.args.name.now in
+    let person = c.args.person.now in
+    let name = person.name in
     let found = c.in_ok-found.found in
     let kept = option_copied c.args.kept_person in
-    let holds = HoldsShown g.L.RequestList.holds in
+    let holds = g.L.RequestList.holds in
     let none : found ≡ None = search (rules, c.in_default.is) in
-    tells_nobody kept name found (λ cs. IsGiven (requests_for cs (callers.Person name)) (Err refusals.UnknownCaller) holds)
-    (state g.S.Store c.args.tx.now.conn.now) (state g.S.Store c.reader_of.new.tx.conn.now) none (λ owner cs e. gives_nobody owner cs name holds e) (c.in_ok-found.ensures.value clean inside)
+    tells_nobody kept name found (IsDue holds person read.Requests (Err refusals.UnknownCaller))
+    (state g.S.Store c.args.tx.now.conn.now) (state g.S.Store c.reader_of.new.tx.conn.now) none (λ owner cs e any. gives_nobody owner cs name (GivesRequests holds) e) (c.in_ok-found.ensures.value clean inside)
 
 pub returns-clause-value : goal.returns-clause-value
 returns-clause-value g c clean inside =
-    let name = c.args.name.now in
+    let person = c.args.person.now in
+    let name = person.name in
     let found = c.in_ok-found.found in
     let kept = option_copied c.args.kept_person in
     let reader = c.in-Some.reader in
@@ -43,5 +46,5 @@ returns-clause-value g c clean inside =
     let second : ReadsTables (λ t. n ≡ length t.requests) s1 s2 = c.in_ok-count.ensures.value c2 first.kept.inside in
     let third : ReadsTables (λ t. ListsUpTo choices.Shown reader t 0 n n (holds list)) s2 s3 = c.in_ok-list.ensures.value clean second.kept.inside in
     let some : found ≡ Some reader = search (rules, c.in-Some.is) in
-    tells_person kept name found (λ cs. IsGiven (requests_for cs (callers.Person name)) (Ok list) (HoldsShown holds)) s0 s1 s3 (λ t. (n ≡ length t.requests) × ListsUpTo choices.Shown reader t 0 n n (holds list)) reader some
-    (λ owner cs h e both. gives_all owner cs name h reader e n both.0 holds list both.1) first (tells_then s1 s2 s3 (λ t. n ≡ length t.requests) (λ t. ListsUpTo choices.Shown reader t 0 n n (holds list)) second third)
+    tells_person kept name found (IsDue holds person read.Requests (Ok (answers.Requests list))) s0 s1 s3 (λ t. (n ≡ length t.requests) × ListsUpTo choices.Shown reader t 0 n n (holds list)) reader some
+    (λ owner cs h e both any. gives_all owner cs name h reader e n both.0 holds list both.1) first (tells_then s1 s2 s3 (λ t. n ≡ length t.requests) (λ t. ListsUpTo choices.Shown reader t 0 n n (holds list)) second third)
