@@ -1,1 +1,2 @@
+mod LivingLemmas
 mod ServingLemmas

@@ -1,24 +1,20 @@
 -- The work of answering and serving requests on a desk, and on the desk in files.
-use Rattle.std.specs.Prelude.{◌≡◌, ◌⊎◌, ℕ, List, Option, Result, Ok, Err, true}
+use Rattle.std.specs.Prelude.{◌≡◌, ◌⊎◌, ℕ, List, Option, Result, Ok, Err}
 use Rattle.sqlite.specs.Files.{over_files}
-use Rattle.sqlite.specs.Held.{state}
-use Rattle.sqlite.specs.State.{HasCleanDisk}
-use Rattle.sqlite.specs.Store as store
 use Rattle.sqlite_disk.specs.declared.Disk.{Ghosts}
 use Rattle.sqlite_store.specs.declared.store.FileStore.{FileStore}
 use Rattle.base.specs.declared.refusal.Refusal.{Refusal}
 use Rattle.base.specs.declared.refusal.Refusal.TheVariants as refusals
-use Rattle.http_exchange.specs.Serving.{AnswersOne}
 use Rattle.http_exchange.specs.declared.served.HttpFault.{HttpFault}
 use Rattle.http_exchange.specs.declared.served.Served.{Served}
 use Rattle.cli_output.specs.Faults.{row_of}
 use Rattle.cli_output.specs.declared.fault.Fault.{Fault}
 use Rattle.http_net.specs.Served as served
 use Rattle.http_net.specs.Turns.{ServesInTurn}
-use Rattle.http_net.specs.Wire.{IsOneRequest}
-use Rattle.store_desk.specs.Desks.{ShowsDesk}
 use Rattle.store_desk.specs.declared.desk.Desk.{Desk}
 use Rattle.cli_opening.specs.Works.{WorksAt}
+use Rattle.cli_requests.specs.Desks.{AnswersRequest, ServesRequest}
+use Rattle.cli_requests.specs.Living.{LivesThrough, LivesThroughOne}
 use Rattle.cli_output.specs.declared.ending.Ending.{Ending}
 use Rattle.cli_output.specs.declared.ending.WorkOutcome.{WorkOutcome}
 use Rattle.cli_output.specs.declared.ending.WorkOutcome.TheVariants.{Done}
@@ -41,21 +37,15 @@ ServesPort serves count old new told = ((told ≡ Err refusals.Read) × (new ≡
 abbrev pub WorksInTurn : {D : Type 0} → (D → D → Result Served HttpFault → Type 0) → ℕ → D → D → Result WorkOutcome Fault → Type 0
 WorksInTurn serves count old new work = (told : Result Unit Refusal) × (work ≡ work_of told) × ServesPort serves count old new told
 
-module _ {S : Type 0} (g : store.Ghosts S) where
-  -- a desk serves one request
-  abbrev pub ServesRequest : Desk S → Desk S → Result Served HttpFault → Type 0
-  ServesRequest = IsOneRequest (ShowsDesk g) (λ desk. HasCleanDisk (state g desk.conn)) (λ desk. desk.needs_reopening ≡ true)
-
-  -- a desk answers one request of an input
-  abbrev pub AnswersRequest : (input before after : Option (List ℕ)) → Desk S → Desk S → Result Served HttpFault → Type 0
-  AnswersRequest = AnswersOne (ShowsDesk g) (λ desk. HasCleanDisk (state g desk.conn)) (λ desk. desk.needs_reopening ≡ true)
-
 module _ {D : Type 0} (g : Ghosts D) where
-  -- this many connections were served by the desk, one after another, and it is closed
+  -- this many connections were served by the desk, one after another, as events of its life, and it
+  -- is closed
   abbrev pub Serves : (count : ℕ) (ending : Ending) (desk : Desk (FileStore D g)) → Type 0
-  Serves count ending desk = WorksAt g (WorksInTurn (ServesRequest over_files) count desk) ending
+  Serves count ending desk =
+      WorksAt g (λ left work. WorksInTurn (ServesRequest over_files) count desk left work × LivesThrough over_files desk left) ending
 
-  -- one request of an input was answered by the desk, and it is closed
+  -- one request of an input was answered by the desk, as an event of its life, and it is closed
   abbrev pub AnswersOnce : (input before after : Option (List ℕ)) (ending : Ending) (desk : Desk (FileStore D g)) → Type 0
   AnswersOnce input before after ending desk =
-      WorksAt g (WorksOnce (AnswersRequest over_files input before after) desk) ending
+      WorksAt g (λ left work. WorksOnce (AnswersRequest over_files input before after) desk left work
+      × LivesThroughOne over_files desk left input before after) ending

@@ -8,8 +8,9 @@ ghost use Rattle.cli_opening.specs.Faults.{IsClosingRefusal, IsLasting, IsOfOpen
 ghost use Rattle.cli_opening.specs.Faults.{IsOpeningRefusal};
 ghost use Rattle.cli_opening.specs.Works.{AtADesk, IsUnopened};
 ghost use Rattle.cli_output.specs.declared.ending.WorkOutcome.TheVariants.{Done};
-ghost use Rattle.cli_requests.specs.Works.{AnswersOnce, AnswersRequest};
-ghost use Rattle.cli_requests.specs.Works.{Serves, ServesRequest, WorksInTurn, WorksOnce};
+ghost use Rattle.cli_requests.specs.Desks.{AnswersRequest, ServesRequest};
+ghost use Rattle.cli_requests.specs.Living.{LivesThrough, LivesThroughOne};
+ghost use Rattle.cli_requests.specs.Works.{AnswersOnce, Serves, WorksInTurn, WorksOnce};
 ghost use Rattle.http_exchange.specs.Serving.{AnswersOne};
 
 use base::Refusal;
@@ -34,7 +35,7 @@ fn answer_one<D: AnswersCalls, R: Read + Drop, W: Write>(
     reader: R,
     writer: &mut W,
 ) -> Result<WorkOutcome, Fault>
-    ensures answered { WorksOnce (AnswersOne D.shows D.clean D.failed (R.remaining reader)
+    ensures answered { WorksOnce (AnswersOne D.shows D.clean D.failed D.leaves (R.remaining reader)
         (W.contents writer.old) (W.contents writer.new)) desk.old desk.new result }
     ensures done { IfOk result (λ outcome. outcome ≡ WorkOutcome.Done) }
     ensures named { IfErr result (IsRow IsAnsweringRefusal) }
@@ -57,8 +58,9 @@ struct OneRequest<'a, R, W> {
 impl<'a, R: Read + Drop, W: Write> Work for OneRequest<'a, R, W> {
     type Output = W;
 
-    ghost does = { λ _ g w before after. WorksOnce (AnswersRequest g (R.remaining w.reader)
-        (W.contents before) (W.contents after)) };
+    ghost does = { λ _ g w before after old new work. WorksOnce (AnswersRequest g
+        (R.remaining w.reader) (W.contents before) (W.contents after)) old new work
+        × LivesThroughOne g old new (R.remaining w.reader) (W.contents before) (W.contents after) };
 
     ghost leaves = { λ _ outcome. outcome ≡ Done };
 
@@ -118,8 +120,8 @@ fn serve_all<D: AnswersCalls>(
     port: u16,
     count: u32,
 ) -> Result<WorkOutcome, Fault>
-    ensures in_turn { WorksInTurn (IsOneRequest D.shows D.clean D.failed) count desk.old desk.new
-        result }
+    ensures in_turn { WorksInTurn (IsOneRequest D.shows D.clean D.failed D.leaves) count
+        desk.old desk.new result }
     ensures done { IfOk result (λ outcome. outcome ≡ WorkOutcome.Done) }
     ensures named { IfErr result (IsRow IsServingRefusal) }
 {
@@ -144,7 +146,8 @@ struct Connections<'a> {
 impl<'a> Work for Connections<'a> {
     type Output = ();
 
-    ghost does = { λ _ g w _ _. WorksInTurn (ServesRequest g) w.count };
+    ghost does = { λ _ g w _ _ old new work. WorksInTurn (ServesRequest g) w.count old new work
+        × LivesThrough g old new };
 
     ghost leaves = { λ _ outcome. outcome ≡ Done };
 

@@ -5,4 +5,5 @@ pub mod MatchLemmas
 pub mod NumberLemmas
 pub mod OwnLemmas
 pub mod RefusalLemmas
+pub mod GivenLemmas
 pub mod TagLemmas

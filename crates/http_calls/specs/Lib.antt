@@ -1,4 +1,5 @@
 pub mod Answers
+pub mod Given
 pub mod Bodies
 pub mod Desks
 pub mod Laws

@@ -1,7 +1,7 @@
 //! The tag of what a command is about, against the one that the caller sent.
 ghost use Rattle.std.specs.Prelude.{◌≡◌, ◌≢◌, ℕ, List, Err, IfErr, IfOk};
 ghost use Rattle.desk_history.specs.Calls.{History};
-ghost use Rattle.desk_exports.specs.Desks.{ForEachShown, StillShows};
+ghost use Rattle.desk_exports.specs.Desks.{ForEachShown, LeavesShown, StillShows};
 ghost use Rattle.http_calls.specs.Desks.{IsTold};
 ghost use Rattle.http_calls.specs.Tags as spec;
 
@@ -93,6 +93,8 @@ fn tag_shown<D: AnswersCalls>(
         (λ _ cs. tag ≡ spec.tag_shown cs person.now.name subject)) }
     ensures same { D.clean desk.new → result ≢ Err Outage.Store
         → StillShows (D.shows desk.old) (D.shows desk.new) }
+    ensures stopped { D.clean desk.new
+        → LeavesShown (D.shows desk.old) (D.leaves desk.new) }
     ensures before { D.clean desk.new → D.clean desk.old }
     ensures usable { ForEachShown (D.shows desk.old) (λ _ _. result ≢ Err Outage.Reopen) }
     ensures poisons { result ≡ Err Outage.Store → D.failed desk.new }
@@ -131,6 +133,8 @@ pub(crate) fn is_mismatch<D: AnswersCalls>(
         (λ _ cs. is_other ≡ spec.is_mismatch cs call.now)) }
     ensures same { D.clean desk.new → result ≢ Err Outage.Store
         → StillShows (D.shows desk.old) (D.shows desk.new) }
+    ensures stopped { D.clean desk.new
+        → LeavesShown (D.shows desk.old) (D.leaves desk.new) }
     ensures before { D.clean desk.new → D.clean desk.old }
     ensures usable { ForEachShown (D.shows desk.old) (λ _ _. result ≢ Err Outage.Reopen) }
     ensures poisons { result ≡ Err Outage.Store → D.failed desk.new }

@@ -1,6 +1,7 @@
 //! Calls that read a desk.
 ghost use Rattle.std.specs.Prelude.{◌≡◌, ◌≢◌, ◌⊎◌, ℕ, List};
 ghost use Rattle.desk_history.specs.Calls.{History};
+ghost use Rattle.desk_exports.specs.Desks.{LeavesShown};
 ghost use Rattle.http_calls.specs.Answers as spec;
 
 use crate::answers::TaskAnswer;
@@ -18,6 +19,8 @@ pub(crate) fn judge<D: AnswersCalls>(alloc: Global, desk: &mut D, image: Pieces)
         → D.shows desk.old owner cs
         → spec.Serves (D.shows desk.new owner) (D.failed desk.new) cs
         (spec.IsRead cs (spec.Judges cs image)) result }
+    ensures stopped { D.clean desk.new
+        → LeavesShown (D.shows desk.old) (D.leaves desk.new) }
     ensures before { D.clean desk.new → D.clean desk.old }
     ensures poisons { result ≡ spec.store_failed → D.failed desk.new }
     ensures closed { D.failed desk.old → spec.IsClosed (λ _ cs. spec.IsRead cs
@@ -52,6 +55,8 @@ pub(crate) fn show<D: AnswersCalls>(desk: &mut D, person: Person, reading: Readi
         → D.shows desk.old owner cs
         → spec.Serves (D.shows desk.new owner) (D.failed desk.new) cs (spec.IsRead cs
         (spec.ShowsAsked owner cs person reading)) result }
+    ensures stopped { D.clean desk.new
+        → LeavesShown (D.shows desk.old) (D.leaves desk.new) }
     ensures before { D.clean desk.new → D.clean desk.old }
     ensures poisons { result ≡ spec.store_failed → D.failed desk.new }
     ensures closed { D.failed desk.old → spec.IsClosed (λ owner cs. spec.IsRead cs

@@ -3,7 +3,8 @@ ghost use Rattle.std.specs.Prelude.{◌≡◌, ◌≢◌, ℕ, List, Err, IfOk};
 ghost use Rattle.sha2.specs.Sha256.{sha256};
 ghost use Rattle.desk_history.specs.Calls.{History};
 ghost use Rattle.http_calls.specs.Answers as spec;
-ghost use Rattle.desk_exports.specs.Desks.{StillShows, ForEachShown, person_with};
+ghost use Rattle.http_calls.specs.Given as given;
+ghost use Rattle.desk_exports.specs.Desks.{ForEachShown, LeavesShown, StillShows, person_with};
 
 use crate::answers::TaskAnswer;
 use crate::bodies::{command_of, returned_file, submission};
@@ -29,6 +30,8 @@ pub fn caller<D: AnswersCalls>(desk: &mut D, token: &[u8]) -> Result<Option<Pers
         (λ _ cs. person ≡ person_with (sha256 token.now) cs)) }
     ensures same { D.clean desk.new → result ≢ Err Outage.Store
         → StillShows (D.shows desk.old) (D.shows desk.new) }
+    ensures stopped { D.clean desk.new
+        → LeavesShown (D.shows desk.old) (D.leaves desk.new) }
     ensures before { D.clean desk.new → D.clean desk.old }
     ensures usable { ForEachShown (D.shows desk.old) (λ _ _. result ≢ Err Outage.Reopen) }
     ensures poisons { result ≡ Err Outage.Store → D.failed desk.new }
@@ -53,6 +56,9 @@ fn answer_image<D: AnswersCalls>(
         → D.shows desk.old owner cs
         → spec.Serves (D.shows desk.new owner) (D.failed desk.new) cs
         (spec.AnswersImage cs name asked image) result }
+    ensures gives { D.clean desk.new → ForEachShown (D.shows desk.old) (λ owner cs.
+        given.GivesOne (D.shows desk.new owner) (D.failed desk.new) (D.leaves desk.new owner) cs
+        (given.IsCallOfImage name asked image) result) }
     ensures before { D.clean desk.new → D.clean desk.old }
     ensures poisons { result ≡ spec.store_failed → D.failed desk.new }
     ensures closed { D.failed desk.old
@@ -84,6 +90,9 @@ fn answer_task<D: AnswersCalls>(
         → D.shows desk.old owner cs
         → spec.Serves (D.shows desk.new owner) (D.failed desk.new) cs
         (spec.AnswersTask owner cs person task) result }
+    ensures gives { D.clean desk.new → ForEachShown (D.shows desk.old) (λ owner cs.
+        given.GivesOne (D.shows desk.new owner) (D.failed desk.new) (D.leaves desk.new owner) cs
+        (given.IsCallOfTask person task) result) }
     ensures before { D.clean desk.new → D.clean desk.old }
     ensures poisons { result ≡ spec.store_failed → D.failed desk.new }
     ensures closed { D.failed desk.old
@@ -107,12 +116,17 @@ fn answer_task<D: AnswersCalls>(
 /// `Unavailable`: the desk couldn't answer. `NoMemory`: memory was refused, and nothing changed.
 /// `Store`: the store failed. `Reopen`: the store failed before. Such a desk may still give an
 /// answer that is due whatever it holds: the facts of an image, the person's own name and role, the
-/// refusal of a body, or of a report to no officer. Every refusal changes nothing.
+/// refusal of a body, or of a report to no officer. Every refusal changes nothing. Whatever the
+/// answer, a stop leaves the history that the desk showed, or the one after the call's command
+/// (`gives`).
 pub fn answer<D: AnswersCalls>(alloc: Global, desk: &mut D, call: TaskAsked) -> TaskAnswer
     ensures served { D.clean desk.new → (owner : List ℕ) (cs : History)
         → D.shows desk.old owner cs
         → spec.Serves (D.shows desk.new owner) (D.failed desk.new) cs
         (spec.AnswersCall owner cs call) result }
+    ensures gives { D.clean desk.new → ForEachShown (D.shows desk.old) (λ owner cs.
+        given.GivesOne (D.shows desk.new owner) (D.failed desk.new) (D.leaves desk.new owner) cs
+        (given.IsCallOf call) result) }
     ensures before { D.clean desk.new → D.clean desk.old }
     ensures poisons { result ≡ spec.store_failed → D.failed desk.new }
     ensures closed { D.failed desk.old

@@ -95,17 +95,18 @@ closed_none (Some b) mid found = λ cs. inr (found.0, found.1, refl)
 
 -- ---- the answer
 
-known : (input : Option (List ℕ)) (told : TaskAnswer) → ((b : List ℕ) → IsClosed (λ owner cs. AnswersInput owner cs b) told)
-    → IfSome input (λ b. IsClosed (λ owner cs. AnswersInput owner cs b) told)
-known None told each = tt
-known (Some b) told each = each b
-
 -- a refusal that is due of every history
 pub closed_due : (input : Option (List ℕ)) (due : CallOrRefusal) (a : TaskAnswer) (stays : Type 0)
     → IsErr due × IfSome input (λ b. (cs : History) → Asks cs b due) → IfErr due (λ refused. (a ≡ Refused refused) × stays)
     → TellsClosed input a × stays
 closed_due input (Ok call) a stays known told = absurd (let no : ⊥ = (let h = known.0 in cc) in no)
-closed_due None (Err x) a stays known told = (record { nothing = subst GivesNothing (sym told.0) tt; closed = tt }, told.1)
+closed_due None (Err x) a stays known told = (
+  record {
+    nothing = subst GivesNothing (sym told.0) tt;
+    closed = inr (inr (λ owner cs. record { due = Err x; asked = tt; answered = (told.0, refl) }));
+  },
+  told.1,
+)
 closed_due (Some b) (Err x) a stays known told = (
   record {
     nothing = subst GivesNothing (sym told.0) tt;
@@ -116,15 +117,15 @@ closed_due (Some b) (Err x) a stays known told = (
 
 -- an outage of a desk that has failed
 pub closed_outage : (input : Option (List ℕ)) (o : Outage) → IsOfClosed (unread.Outage o) → TellsClosed input (Unavailable o)
-closed_outage input outage.NoMemory h = record { nothing = tt; closed = known input no_memory (λ b. inr (inl refl)) }
+closed_outage input outage.NoMemory h = record { nothing = tt; closed = inr (inl refl) }
 closed_outage input outage.Store h = absurd h
-closed_outage input outage.Reopen h = record { nothing = tt; closed = known input reopened (λ b. inl refl) }
+closed_outage input outage.Reopen h = record { nothing = tt; closed = inl refl }
 closed_outage input outage.NotADesk h = absurd h
 
 -- the answer that is sent for this one
 told_closed : (input : Option (List ℕ)) (a told : TaskAnswer) → TellsClosed input a → Replaces a told → TellsClosed input told
 told_closed input a told closed (inl e) = subst (TellsClosed input) (sym e) closed
-told_closed input a told closed (inr x) = record { nothing = subst GivesNothing (sym x.0) tt; closed = known input told (λ b. inr (inl x.0)) }
+told_closed input a told closed (inr x) = record { nothing = subst GivesNothing (sym x.0) tt; closed = inr (inl x.0) }
 
 -- the response of a desk that has failed, as it went out
 pub responds_closed : (input before after : Option (List ℕ)) (a : TaskAnswer) (r : Result Served HttpFault)

@@ -1,9 +1,11 @@
 pub mod AskLemmas
 pub mod BodyLemmas
 pub mod ClosedLemmas
+pub mod GivenLemmas
 pub mod InputLemmas
+pub mod LivingLemmas
 pub mod MatchLemmas
-pub mod StoreLemmas
 pub mod SendLemmas
+pub mod StoreLemmas
 pub mod StrangerLemmas
 pub mod TellLemmas

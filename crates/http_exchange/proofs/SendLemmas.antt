@@ -1,5 +1,5 @@
 -- The bytes that went out, and the answer that they carry.
-use Rattle.std.proofs.Common.{◌≡◌, ◌∙◌, ℕ, List, sym, Option, Some, None, Result, Ok, Err, IfSome, MatchResult}
+use Rattle.std.proofs.Common.{◌≡◌, ◌∙◌, ℕ, List, sym, Option, Result, Ok, Err, MatchResult}
 use Rattle.std.specs.Io.KnownBytes.{Appends}
 use Rattle.base.specs.Output.{AppendsBeginning}
 use Rattle.desk_history.specs.Calls.{History}
@@ -36,31 +36,29 @@ sends_response old new a bytes says (Err NoMemory) is e sent = let same : NoMemo
 abbrev pub SendsFor : (before after : Option (List ℕ)) → TaskAnswer → Result Served HttpFault → Type 0
 SendsFor before after a r = (told : TaskAnswer) × Replaces a told × Sends before after told r
 
--- the desk answers the known input so
-abbrev pub ServesKnown : Option (List ℕ) → (old new : List ℕ → History → Type 0) → (failed : Type 0) → TaskAnswer → Type 0
-ServesKnown known old new failed a =
-    IfSome known (λ b. ForEachShown old (λ owner cs. Serves (new owner) failed cs (AnswersInput owner cs b) a))
+-- the desk answers the input so
+abbrev pub ServesInput : Option (List ℕ) → (old new : List ℕ → History → Type 0) → (failed : Type 0) → TaskAnswer → Type 0
+ServesInput input old new failed a =
+    ForEachShown old (λ owner cs. Serves (new owner) failed cs (AnswersInput owner cs input) a)
 
-pub answered_is_told : (known before after : Option (List ℕ)) (old new : List ℕ → History → Type 0) (failed : Type 0) (a : TaskAnswer) (r : Result Served HttpFault)
-    → ServesKnown known old new failed a → SendsFor before after a r
-    → WhenAnswered r (λ answered. IfSome known (λ b. ForEachShown old (λ owner cs. (told : TaskAnswer)
-    × Responds before after told answered × AnswersDueOrOutage (new owner) failed cs (AnswersInput owner cs b) told)))
-answered_is_told known before after old new failed a (Err fault) served sent = tt
-answered_is_told known before after old new failed a (Ok Nothing) served sent = tt
-answered_is_told None before after old new failed a (Ok (Answered answered)) served sent = tt
-answered_is_told (Some b) before after old new failed a (Ok (Answered answered)) served sent = λ owner cs shown.
-    (sent.0, sent.2, told_is_served (new owner) failed cs (AnswersInput owner cs b) a sent.0 (served owner cs shown) sent.1)
+pub answered_is_told : (input before after : Option (List ℕ)) (old new : List ℕ → History → Type 0) (failed : Type 0) (a : TaskAnswer) (r : Result Served HttpFault)
+    → ServesInput input old new failed a → SendsFor before after a r
+    → WhenAnswered r (λ answered. ForEachShown old (λ owner cs. (told : TaskAnswer)
+    × Responds before after told answered × AnswersDueOrOutage (new owner) failed cs (AnswersInput owner cs input) told))
+answered_is_told input before after old new failed a (Err fault) served sent = tt
+answered_is_told input before after old new failed a (Ok Nothing) served sent = tt
+answered_is_told input before after old new failed a (Ok (Answered answered)) served sent = λ owner cs shown.
+    (sent.0, sent.2, told_is_served (new owner) failed cs (AnswersInput owner cs input) a sent.0 (served owner cs shown) sent.1)
 
-pub unwritten_is_told : (known before after : Option (List ℕ)) (old new : List ℕ → History → Type 0) (failed : Type 0) (a : TaskAnswer) (r : Result Served HttpFault)
-    → ServesKnown known old new failed a → SendsFor before after a r
-    → WhenUnwritten r (IfSome known (λ b. ForEachShown old (λ owner cs. (told : TaskAnswer)
-    × AppendsBeginning before after (response_of told) × AnswersDueOrOutage (new owner) failed cs (AnswersInput owner cs b) told)))
-unwritten_is_told known before after old new failed a (Ok s) served sent = tt
-unwritten_is_told known before after old new failed a (Err Read) served sent = tt
-unwritten_is_told known before after old new failed a (Err NoMemory) served sent = tt
-unwritten_is_told None before after old new failed a (Err Write) served sent = tt
-unwritten_is_told (Some b) before after old new failed a (Err Write) served sent = λ owner cs shown.
-    (sent.0, sent.2, told_is_served (new owner) failed cs (AnswersInput owner cs b) a sent.0 (served owner cs shown) sent.1)
+pub unwritten_is_told : (input before after : Option (List ℕ)) (old new : List ℕ → History → Type 0) (failed : Type 0) (a : TaskAnswer) (r : Result Served HttpFault)
+    → ServesInput input old new failed a → SendsFor before after a r
+    → WhenUnwritten r (ForEachShown old (λ owner cs. (told : TaskAnswer)
+    × AppendsBeginning before after (response_of told) × AnswersDueOrOutage (new owner) failed cs (AnswersInput owner cs input) told))
+unwritten_is_told input before after old new failed a (Ok s) served sent = tt
+unwritten_is_told input before after old new failed a (Err Read) served sent = tt
+unwritten_is_told input before after old new failed a (Err NoMemory) served sent = tt
+unwritten_is_told input before after old new failed a (Err Write) served sent = λ owner cs shown.
+    (sent.0, sent.2, told_is_served (new owner) failed cs (AnswersInput owner cs input) a sent.0 (served owner cs shown) sent.1)
 
 pub response_is_told : (before after : Option (List ℕ)) (a : TaskAnswer) (r : Result Served HttpFault) → SendsFor before after a r
     → WhenAnswered r (λ answered. (told : TaskAnswer) × Responds before after told answered)

@@ -2,26 +2,32 @@
 use Rattle.std.proofs.Common.{◌≡◌, ◌⊎◌, ℕ, List, inl, inr, sym, subst, false, Option, Some, None, IfSome}
 use Rattle.desk_history.specs.Calls.{History}
 use Rattle.http_calls.specs.Answers.{Serves, store_failed}
-use Rattle.desk_exports.specs.Desks.{StillShows, ForEachShown}
+use Rattle.desk_exports.specs.Desks.{ForEachShown, StillShows}
 use Rattle.http_calls.specs.declared.answers.TaskAnswer.{TaskAnswer}
 use Rattle.http_exchange.specs.Asked.{Asks, CallOrRefusal}
 use Rattle.http_exchange.specs.Sending.{Replaces, is_outage}
 use Rattle.http_exchange.specs.Serving.{AnswersDue, AnswersInput, IsServed, AnswersDueOrOutage}
 
--- an answer to the request of an input is one to the input
-pub serves_input : (shows : History → Type 0) (failed : Type 0) (owner : List ℕ) (cs : History) (b : List ℕ) (due : CallOrRefusal) (a : TaskAnswer)
-    → Asks cs b due → Serves shows failed cs (AnswersDue owner cs due) a → Serves shows failed cs (AnswersInput owner cs b) a
-serves_input shows failed owner cs b due a asked (inl s) = inl (s.0, record { due = due; asked = asked; answered = s.1 }, s.2)
-serves_input shows failed owner cs b due a asked (inr others) = inr others
+module _ (owner : List ℕ) (cs : History) (input : Option (List ℕ)) (due : CallOrRefusal) (asked : IfSome input (λ b. Asks cs b due)) where
+  -- an answer to the request of an input is one to the input
+  serves_input : (shows : History → Type 0) (failed : Type 0) (a : TaskAnswer)
+      → Serves shows failed cs (AnswersDue owner cs due) a → Serves shows failed cs (AnswersInput owner cs input) a
+  serves_input shows failed a (inl s) = inl (s.0, record { due = due; asked = asked; answered = s.1 }, s.2)
+  serves_input shows failed a (inr others) = inr others
+
+-- the request that an input asks for
+pub input_asks : (known : Option (List ℕ)) (old : List ℕ → History → Type 0) (due : CallOrRefusal)
+    → IfSome known (λ b. ForEachShown old (λ _ cs. Asks cs b due)) → ForEachShown old (λ _ cs. IfSome known (λ b. Asks cs b due))
+input_asks None old due asked = λ owner cs shown. tt
+input_asks (Some b) old due asked = asked
 
 -- the desk keeps what it shows while the request is read, and then answers it
 pub input_is_served : (known : Option (List ℕ)) (old mid new : List ℕ → History → Type 0) (failed : Type 0) (due : CallOrRefusal) (a : TaskAnswer)
     → IfSome known (λ b. ForEachShown old (λ _ cs. Asks cs b due)) → StillShows old mid
     → ForEachShown mid (λ owner cs. Serves (new owner) failed cs (AnswersDue owner cs due) a)
-    → IfSome known (λ b. ForEachShown old (λ owner cs. Serves (new owner) failed cs (AnswersInput owner cs b) a))
-input_is_served None old mid new failed due a asked kept served = tt
-input_is_served (Some b) old mid new failed due a asked kept served =
-    λ owner cs shown. serves_input (new owner) failed owner cs b due a (asked owner cs shown) (served owner cs (kept owner cs shown))
+    → ForEachShown old (λ owner cs. Serves (new owner) failed cs (AnswersInput owner cs known) a)
+input_is_served known old mid new failed due a asked kept served = λ owner cs shown.
+    serves_input owner cs known due (input_asks known old due asked owner cs shown) (new owner) failed a (served owner cs (kept owner cs shown))
 
 -- an answer is sent unchanged
 same_told : (shows : History → Type 0) (failed : Type 0) (cs : History) (due : TaskAnswer → History → Type 0) (a : TaskAnswer)

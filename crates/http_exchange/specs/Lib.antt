@@ -1,6 +1,7 @@
 pub mod Asked
 pub mod Bodies
 pub mod Intakes
+pub mod Living
 pub mod Matching
 pub mod Refused
 pub mod Responses

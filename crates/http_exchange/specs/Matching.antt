@@ -62,4 +62,4 @@ pub record IsAboutTag (cs : History) (route : PostRoute) (w : Want) (t : List �
 abbrev pub MatchedInputsAreAboutTheirTag : Type 0
 MatchedInputsAreAboutTheirTag =
     (owner : List ℕ) (cs : History) (b : List ℕ) (route : PostRoute) (w : Want) (t : List ℕ) (a : TaskAnswer) (later : History)
-    → HasTag b route w t → AnswersInput owner cs b a later → later ≢ cs → IsAboutTag cs route w t
+    → HasTag b route w t → AnswersInput owner cs (Some b) a later → later ≢ cs → IsAboutTag cs route w t

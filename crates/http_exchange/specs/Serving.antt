@@ -4,10 +4,13 @@ use Rattle.std.specs.Io.KnownBytes.{Appends, Keeps}
 use Rattle.base.specs.Output.{AppendsBeginning}
 use Rattle.http_responses.specs.declared.outage.Outage.TheVariants as outage
 use Rattle.desk_history.specs.Calls.{History}
+use Rattle.desk_types.specs.declared.command.Call.{Call as Ruled}
 use Rattle.http_calls.specs.Answers.{AnswersCall, GivesNothing, IsClosed, no_memory, store_failed}
-use Rattle.desk_exports.specs.Desks.{ForEachShown, StillShows}
+use Rattle.desk_exports.specs.Desks.{ForEachShown, LeavesShown, StillShows}
+use Rattle.http_calls.specs.Given.{GivesOne, IsCallOf}
 use Rattle.http_calls.specs.declared.answers.TaskAnswer.{TaskAnswer}
 use Rattle.http_calls.specs.declared.answers.TaskAnswer.TheVariants.{Refused}
+use Rattle.http_calls.specs.declared.call.TaskAsked.{TaskAsked}
 use Rattle.http_exchange.specs.Asked.{Asks, CallOrRefusal, HasByte, LeavesBody}
 use Rattle.http_exchange.specs.Responses.{answered_of, response_of}
 use Rattle.http_exchange.specs.declared.served.Answered.{Answered}
@@ -23,11 +26,21 @@ abbrev pub AnswersDue : List ℕ → History → CallOrRefusal → TaskAnswer �
 AnswersDue owner cs (Ok call) = AnswersCall owner cs call
 AnswersDue owner cs (Err refused) = λ a later. (a ≡ Refused refused) × (later ≡ cs)
 
--- the desk that shows the history gives this answer to the input b, and then shows `later`
-pub record AnswersInput (owner : List ℕ) (cs : History) (b : List ℕ) (a : TaskAnswer) (later : History) : Type 0 where
+-- The desk that shows the history gives this answer to the request of the input, and then shows
+-- `later`. No clause can name the bytes of a socket: then it is some request.
+pub record AnswersInput (owner : List ℕ) (cs : History) (input : Option (List ℕ)) (a : TaskAnswer) (later : History) : Type 0 where
   pub due : CallOrRefusal
-  pub asked : Asks cs b due
+  pub asked : IfSome input (λ b. Asks cs b due)
   pub answered : AnswersDue owner cs due a later
+
+-- what is due asks for this call of the desk's rules
+abbrev pub IsCallDue : CallOrRefusal → Ruled → Type 0
+IsCallDue (Ok call) = IsCallOf call
+IsCallDue (Err refused) = λ c. ⊥
+
+-- the input asks for this call of the desk's rules
+abbrev pub IsAskedIn : History → Option (List ℕ) → Ruled → Type 0
+IsAskedIn cs input c = (call : TaskAsked) × IfSome input (λ b. Asks cs b (Ok call)) × IsCallOf call c
 
 -- the answer is due, and the desk shows the history after it
 pub record IsServed (shows : History → Type 0) (due : TaskAnswer → History → Type 0) (a : TaskAnswer) : Type 0 where
@@ -86,7 +99,7 @@ FailsFirst failed result = WhenAnswered result (λ answered. answered.said ≡ s
 -- was refused, or the refusal is due at any history
 pub record TellsClosed (input : Option (List ℕ)) (told : TaskAnswer) : Type 0 where
   pub nothing : GivesNothing told
-  pub closed : IfSome input (λ b. IsClosed (λ owner cs. AnswersInput owner cs b) told)
+  pub closed : IsClosed (λ owner cs. AnswersInput owner cs input) told
 
 -- the response of a desk that has failed, or the prefix of it that was written, is for such a
 -- refusal
@@ -107,24 +120,32 @@ IsOfBytes input result = WhenAnswered result (λ _. HasByte input) × WhenUnwrit
 
 -- One exchange of a desk that was `old` and is `new`, in the words of `AnswersCalls`; the writer held
 -- `held` and now holds `holds`.
-pub record AnswersOne {D : Type 0} (shows : D → List ℕ → History → Type 0) (clean failed : D → Type 0) (input held holds : Option (List ℕ)) (old new : D) (result : Result Served HttpFault) : Type 0 where
+pub record AnswersOne {D : Type 0} (shows : D → List ℕ → History → Type 0) (clean failed : D → Type 0) (leaves : D → List ℕ → History → History → Type 0) (input held holds : Option (List ℕ)) (old new : D) (result : Result Served HttpFault) : Type 0 where
   -- a response that was written is that of an answer to the input at the history that the desk
   -- showed, and the desk shows the history after that answer
   pub answered : clean new → WhenAnswered result (λ answered.
-      IfSome input (λ b. ForEachShown (shows old) (λ owner cs. (told : TaskAnswer)
+      ForEachShown (shows old) (λ owner cs. (told : TaskAnswer)
       × Responds held holds told answered
-      × AnswersDueOrOutage (shows new owner) (failed new) cs (AnswersInput owner cs b) told)))
+      × AnswersDueOrOutage (shows new owner) (failed new) cs (AnswersInput owner cs input) told))
   -- an input without bytes is ignored: nothing is written, and the desk shows the same history
-  pub nothing : clean new → WhenNothing result (IfSome input (λ b.
-      ForEachShown (shows old) (λ owner cs. (b ≡ []) × Keeps held holds × shows new owner cs)))
+  pub nothing : clean new → WhenNothing result (ForEachShown (shows old) (λ owner cs.
+      IfSome input (λ b. b ≡ []) × Keeps held holds × shows new owner cs))
   -- if the request wasn't read, nothing is written, and the desk shows the same history
   pub unread : clean new → WhenUnread result (Keeps held holds × StillShows (shows old) (shows new))
   -- if the writer failed, it has a prefix of the response to such an answer, and the desk shows the
   -- history after that answer
   pub unwritten : clean new → WhenUnwritten result
-      (IfSome input (λ b. ForEachShown (shows old) (λ owner cs. (told : TaskAnswer)
+      (ForEachShown (shows old) (λ owner cs. (told : TaskAnswer)
       × AppendsBeginning held holds (response_of told)
-      × AnswersDueOrOutage (shows new owner) (failed new) cs (AnswersInput owner cs b) told)))
+      × AnswersDueOrOutage (shows new owner) (failed new) cs (AnswersInput owner cs input) told))
+  -- whatever the outcome, the desk was given at most one call, which the input asks for; a reply is
+  -- that of the desk's rules to this call; and a stop leaves the history that the desk showed, or the
+  -- one after the call
+  pub gives : clean new → ForEachShown (shows old) (λ owner cs. (told : TaskAnswer)
+      × WhenAnswered result (Responds held holds told)
+      × GivesOne (shows new owner) (failed new) (leaves new owner) cs (IsAskedIn cs input) told)
+  -- a stop leaves the history that the desk shows now, if it shows one
+  pub rests : LeavesShown (shows new) (leaves new)
   pub some : IsOfBytes input result
   -- whatever the desk shows: the bytes that were written are the whole response to an answer, with
   -- its status and what it says

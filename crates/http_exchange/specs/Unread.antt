@@ -2,7 +2,7 @@
 use Rattle.std.specs.Prelude.{◌≡◌, ◌≢◌, ⊤, ℕ, List, Option, Some, None, Result, Ok, Err, IfErr, IfSome, IsErr}
 use Rattle.desk_history.specs.Calls.{History}
 use Rattle.http_responses.specs.declared.outage.Outage.TheVariants as outage
-use Rattle.desk_exports.specs.Desks.{ForEachShown, StillShows}
+use Rattle.desk_exports.specs.Desks.{ForEachShown, LeavesShown, StillShows}
 use Rattle.http_exchange.specs.Asked.{Asks, CallOrRefusal}
 use Rattle.http_exchange.specs.declared.served.Unread.{Unread}
 use Rattle.http_exchange.specs.declared.served.Unread.TheVariants as unread
@@ -17,9 +17,11 @@ CanCome (unread.Outage outage.Reopen) = ⊥
 CanCome (unread.Outage outage.NotADesk) = ⊥
 
 -- the desk, in which the caller may be looked up while a request is read
-pub record AsksSafely {D X : Type 0} (shows : D → List ℕ → History → Type 0) (clean failed : D → Type 0) (old new : D) (result : Result X Unread) : Type 0 where
+pub record AsksSafely {D X : Type 0} (shows : D → List ℕ → History → Type 0) (clean failed : D → Type 0) (leaves : D → List ℕ → History → History → Type 0) (old new : D) (result : Result X Unread) : Type 0 where
   -- except for Store it shows the same
   pub same : clean new → result ≢ Err (unread.Outage outage.Store) → StillShows (shows old) (shows new)
+  -- whatever the result, a stop leaves what was shown
+  pub stopped : clean new → LeavesShown (shows old) (leaves new)
   -- a disk that is clean afterwards was clean before
   pub before : clean new → clean old
   pub named : ForEachShown (shows old) (λ _ _. IfErr result CanCome)

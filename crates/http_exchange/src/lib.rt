@@ -4,6 +4,7 @@
 mod asking;
 mod intake;
 mod laws;
+mod living;
 mod reading;
 mod responding;
 mod served;
@@ -14,5 +15,6 @@ pub use intake::RequestReader;
 pub use laws::{
     matched_inputs_are_about_their_tag, one_thing_is_asked, what_follows_changes_nothing,
 };
+pub use living::exchanges_add_events;
 pub use served::{Answered, HttpFault, Said, Served};
 pub use serving::serve_one;

@@ -41,7 +41,7 @@ fn refusal_of_head(fault: WantedFault) -> Refused
 fn person_of<D: AnswersCalls>(desk: &mut D, token: Option<&[u8]>) -> Result<Option<Person>, Unread>
     ensures asked { D.clean desk.new → IfOk result (λ person. ForEachShown (D.shows desk.old)
         (λ _ cs. person ≡ spec.caller_of cs (bytes_of token.entry))) }
-    ensures desk { AsksSafely D.shows D.clean D.failed desk.old desk.new result }
+    ensures desk { AsksSafely D.shows D.clean D.failed D.leaves desk.old desk.new result }
     ensures closed { D.failed desk.old → (desk.new ≡ desk.old) × MatchResult result
         (λ person. (person ≡ None) × (bytes_of token.entry ≡ None))
         (λ unread. unread ≡ Unread.Outage Outage.Reopen) }
@@ -67,7 +67,7 @@ fn ask_as<D: AnswersCalls, R: Read>(
     ensures asked { D.clean desk.new → IfOk result (λ due. IfSome (R.remaining reader.old) (λ rest.
         ForEachShown (D.shows desk.old) (λ _ cs. due ≡ spec.of_caller (wants.shown wanted.now) rest
         (spec.caller_of cs (wants.shown wanted.now).token)))) }
-    ensures desk { AsksSafely D.shows D.clean D.failed desk.old desk.new result }
+    ensures desk { AsksSafely D.shows D.clean D.failed D.leaves desk.old desk.new result }
     ensures closed { D.failed desk.old → (desk.new ≡ desk.old) × MatchResult result
         (λ due. (due ≡ Err Refused.UnknownCaller) × ((wants.shown wanted.now).token ≡ None))
         (λ unread. unread ≡ Unread.Outage Outage.Reopen) }
@@ -95,7 +95,7 @@ fn ask_by_head<D: AnswersCalls, R: Read>(
     ensures asked { (h : RequestHead) (q : List ℕ) → ReadsRequest head.now h q
         → D.clean desk.new → IfOk result (λ due. IfSome (R.remaining reader.old) (λ rest.
         ForEachShown (D.shows desk.old) (λ _ cs. due ≡ spec.due_of cs h rest))) }
-    ensures desk { AsksSafely D.shows D.clean D.failed desk.old desk.new result }
+    ensures desk { AsksSafely D.shows D.clean D.failed D.leaves desk.old desk.new result }
     ensures closed { D.failed desk.old → (desk.new ≡ desk.old) × MatchResult result
         (λ due. IsErr due × ((h : RequestHead) (q : List ℕ)
         → ReadsRequest head.now h q → (cs : History) (rest : List ℕ) → due ≡ spec.due_of cs h rest))
@@ -121,7 +121,7 @@ pub(crate) fn read_due<D: AnswersCalls, R: Read>(
 ) -> Result<Option<CallOrRefusal>, Unread>
     ensures asked { D.clean desk.new → IfOk result (λ found. IfSome (R.remaining reader.old) (λ b.
         ForEachShown (D.shows desk.old) (λ _ cs. MatchOption found (b ≡ []) (spec.Asks cs b)))) }
-    ensures desk { AsksSafely D.shows D.clean D.failed desk.old desk.new result }
+    ensures desk { AsksSafely D.shows D.clean D.failed D.leaves desk.old desk.new result }
     ensures closed { D.failed desk.old → (desk.new ≡ desk.old)
         × IsKnownOfClosed (R.remaining reader.old) result }
     ensures stranger { D.clean desk.new → WhenAsked result

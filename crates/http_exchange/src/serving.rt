@@ -2,6 +2,7 @@
 ghost use Rattle.std.specs.Prelude.{◌≡◌, ◌≢◌, [], Ok, Some};
 ghost use Rattle.std.specs.Prelude.{IfErr, IfOk, IfSome, MatchOption, OnErr};
 ghost use Rattle.http_calls.specs.Answers.{Serves, store_failed};
+ghost use Rattle.http_calls.specs.Given.{GivesOne};
 ghost use Rattle.desk_exports.specs.Desks.{StillShows, ForEachShown};
 ghost use Rattle.http_calls.specs.declared.answers.TaskAnswer.{TaskAnswer};
 ghost use Rattle.http_exchange.specs.Asked.{HasByte, LeavesBody};
@@ -24,6 +25,9 @@ fn answer_due<D: AnswersCalls>(alloc: Global, desk: &mut D, due: CallOrRefusal) 
     ensures served { D.clean desk.new → ForEachShown (D.shows desk.old) (λ owner cs.
         Serves (D.shows desk.new owner) (D.failed desk.new) cs
         (spec.AnswersDue owner cs due) result) }
+    ensures gives { D.clean desk.new → ForEachShown (D.shows desk.old) (λ owner cs.
+        GivesOne (D.shows desk.new owner) (D.failed desk.new) (D.leaves desk.new owner) cs
+        (spec.IsCallDue due) result) }
     ensures before { D.clean desk.new → D.clean desk.old }
     ensures poisons { result ≡ store_failed → D.failed desk.new }
     ensures refused { IfErr due (λ refused.
@@ -44,9 +48,14 @@ fn answer_input<D: AnswersCalls, R: Read>(
     intake: &mut RequestReader,
 ) -> Result<Option<TaskAnswer>, HttpFault>
     ensures answered { D.clean desk.new → IfOk result (λ found.
-        IfSome (R.remaining reader.old) (λ b. ForEachShown (D.shows desk.old) (λ owner cs.
-        MatchOption found ((b ≡ []) × D.shows desk.new owner cs)
-        (Serves (D.shows desk.new owner) (D.failed desk.new) cs (spec.AnswersInput owner cs b))))) }
+        ForEachShown (D.shows desk.old) (λ owner cs. MatchOption found
+        (IfSome (R.remaining reader.old) (λ b. b ≡ []) × D.shows desk.new owner cs)
+        (Serves (D.shows desk.new owner) (D.failed desk.new) cs
+        (spec.AnswersInput owner cs (R.remaining reader.old))))) }
+    ensures gives { D.clean desk.new → IfOk result (λ found.
+        ForEachShown (D.shows desk.old) (λ owner cs. MatchOption found (D.shows desk.new owner cs)
+        (GivesOne (D.shows desk.new owner) (D.failed desk.new) (D.leaves desk.new owner) cs
+        (spec.IsAskedIn cs (R.remaining reader.old))))) }
     ensures unread { D.clean desk.new
         → OnErr result (StillShows (D.shows desk.old) (D.shows desk.new)) }
     ensures fault { IfErr result (λ fault. fault ≢ HttpFault.Write) }
@@ -75,7 +84,8 @@ fn answer_input<D: AnswersCalls, R: Read>(
 ///
 /// If memory for an answer or its text is refused, the response is NoMemory, and an accepted
 /// command stays accepted. If the store fails, the response is Store; if it failed before, Reopen.
-/// Each has status 503.
+/// Each has status 503. Whatever the response, a stop afterwards leaves the history that the desk
+/// showed, or the one after the call of the request (`gives`).
 ///
 /// Read: a read failed. NoMemory: memory for the head or the body was refused. After these nothing
 /// is written, and the desk shows the same history. Write: the writer failed; a prefix of the
@@ -89,8 +99,9 @@ pub fn serve_one<D: AnswersCalls, R: Read, W: Write>(
     intake: &mut RequestReader,
     writer: &mut W,
 ) -> Result<Served, HttpFault>
-    ensures serves { spec.AnswersOne D.shows D.clean D.failed (R.remaining reader.old)
-        (W.contents writer.old) (W.contents writer.new) desk.old desk.new result }
+    ensures serves { spec.AnswersOne D.shows D.clean D.failed D.leaves
+        (R.remaining reader.old) (W.contents writer.old) (W.contents writer.new)
+        desk.old desk.new result }
     ensures stranger { D.clean desk.new → spec.LeavesStrangers (D.shows desk.old)
         (R.remaining reader.old) (R.remaining reader.new) result }
     ensures cause { EndIsCaused intake.old intake.new result }

@@ -1,2 +1,3 @@
+pub mod LivingLemmas
 pub mod ReadingOffLemmas
 pub mod TurnLemmas

@@ -9,7 +9,8 @@ use Rattle.http_net.specs.Served.{ending_of}
 use Rattle.http_net.specs.Turns.{AreServed, GoesOn, ServesInTurn}
 
 module _ {D : Type 0} (serves : D → D → Result Served HttpFault → Type 0) where
-  one_more : (all : List (Result Served HttpFault)) (served : Result Served HttpFault) (old mid new : D)
+  -- one outcome more
+  pub one_more : (all : List (Result Served HttpFault)) (served : Result Served HttpFault) (old mid new : D)
       → AreServed serves all old mid → serves mid new served → AreServed serves (all ++ served ∷ []) old new
   one_more [] served old mid new each one = (new, subst (λ d. serves d new served) each one, refl)
   one_more (first ∷ all) served old mid new each one = (each.0, each.1, one_more all served each.0 mid new each.2 one)

@@ -45,7 +45,7 @@ pub fn answer_connection<D: AnswersCalls, R: Read + Drop, W: Write>(
     intake: &mut RequestReader,
     writer: &mut W,
 ) -> Result<Served, HttpFault>
-    ensures serves { AnswersOne D.shows D.clean D.failed (R.remaining reader)
+    ensures serves { AnswersOne D.shows D.clean D.failed D.leaves (R.remaining reader)
         (W.contents writer.old) (W.contents writer.new) desk.old desk.new result }
     ensures cause { result ≢ Err HttpFault.NoMemory → EndIsCaused intake.old intake.new result }
 {
@@ -64,7 +64,7 @@ pub(crate) fn serve_stream<C: Clock, D: AnswersCalls>(
     desk: &mut D,
     stream: &TcpStream,
 ) -> Result<Served, HttpFault>
-    ensures serves { IsOneRequest D.shows D.clean D.failed desk.old desk.new result }
+    ensures serves { IsOneRequest D.shows D.clean D.failed D.leaves desk.old desk.new result }
 {
     let reader = Timed::new(clock, stream);
     let mut writer = Timed::new(clock, stream);

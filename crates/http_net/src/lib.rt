@@ -3,6 +3,7 @@
 
 mod allowance;
 mod connection;
+mod living;
 mod peers;
 mod reading_off;
 mod served;
@@ -10,6 +11,7 @@ mod serving;
 mod timed;
 
 pub use connection::answer_connection;
+pub use living::connections_add_events;
 pub use reading_off::read_off;
 pub use served::outcome;
 pub use serving::{listen, serve};

@@ -38,7 +38,7 @@ struct Callers<'l, C> {
 }
 
 impl<'l, C: Clock, D: AnswersCalls> Peers<D> for Callers<'l, C> {
-    ghost serves = { λ _. IsOneRequest D.shows D.clean D.failed };
+    ghost serves = { λ _. IsOneRequest D.shows D.clean D.failed D.leaves };
 
     fn serve_next(&self, alloc: Global, desk: &mut D) -> Option<Result<Served, HttpFault>> {
         match self.listener.accept() {
@@ -88,8 +88,8 @@ pub fn serve<C: Clock, D: AnswersCalls>(
     listener: &TcpListener,
     count: u32,
 ) -> Result<(), Refusal>
-    ensures in_turn { ServesInTurn (IsOneRequest D.shows D.clean D.failed) count desk.old desk.new
-        result }
+    ensures in_turn { ServesInTurn (IsOneRequest D.shows D.clean D.failed D.leaves) count
+        desk.old desk.new result }
     ensures named { IfErr result IsServingRefusal }
     ensures before { D.clean desk.new → D.clean desk.old }
     ensures poisons { IsErrOf result Refusal.Store → D.failed desk.new }

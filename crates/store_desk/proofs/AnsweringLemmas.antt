@@ -9,16 +9,26 @@ use Rattle.desk_types.specs.declared.command.Person.{Person}
 use Rattle.desk_types.specs.declared.reply.Reply.{Reply}
 use Rattle.desk_history.specs.Calls.{History}
 use Rattle.desk_history.specs.People.{has_token, people}
-use Rattle.desk_history.specs.Runs.{answer}
+use Rattle.desk_history.specs.DecisionRefusals.{may_answer}
+use Rattle.desk_history.specs.Lives.{IsLeft}
+use Rattle.desk_history.specs.Runs.{answer, next}
 use Rattle.desk_history.specs.declared.answer.Answer.TheVariants as ruled
 use Rattle.store_reads.specs.Reads.{listed}
-use Rattle.store_desk.specs.Desks.{Refuses, ShowsDesk}
+use Rattle.sqlite.specs.Held.{state}
+use Rattle.sqlite.specs.Tree.{Trees}
+use Rattle.desk_types.specs.Formed.{IsCall}
+use Rattle.store_schema.specs.rows.Histories.{HoldsHistory}
+use Rattle.store_sql.specs.States.{Spares}
+use Rattle.store_desk.specs.Answering.{LeavesOne}
+use Rattle.store_desk.specs.Desks.{IsCallRefusal, MayStop, Refuses, ShowsDesk}
 use Rattle.store_desk.specs.Showing as store
 use Rattle.store_desk.specs.declared.desk.Desk.{Desk}
-use Rattle.desk_exports.specs.Desks.{IsReadingRefusal, person_with}
+use Rattle.desk_exports.specs.Desks.{IsOutage, IsReadingRefusal, person_with}
 use Rattle.desk_exports.specs.Readings.{may_refuse}
 use Rattle.desk_exports.specs.declared.reading.Reading.{Reading}
 use Rattle.desk_exports.specs.declared.reading.Reading.TheVariants as read
+use Rattle.store_desk.proofs.ActingLemmas.{next_history}
+use Rattle.store_desk.proofs.OpeningLemmas.{still_leaves}
 
 -- ---- readings
 
@@ -106,3 +116,47 @@ module _ {S : Type 0} (g : sqlite.Ghosts S) (old new : Desk S) (c : Call) where
       → IfErr given (λ refusal. refusal ≢ refusals.Store → (owner : List ℕ) (cs : History) → ShowsDesk g old owner cs → ShowsDesk g new owner cs)
   refused_same (Ok reply) refuses = tt
   refused_same (Err refusal) refuses = λ no_store owner cs was. (refuses no_store owner cs was).1
+
+-- a refusal of a call is that of a decision, or an outage
+call_named : (closed : Bool) (r : Refusal) → (closed ≡ true → r ≡ refusals.Reopen) → (closed ≡ false → IsCallRefusal r) → IsTrue (may_answer r) ⊎ IsOutage r
+call_named true r shut named = inr (inr (inr (shut refl)))
+call_named false r shut named = elim (named refl) [ inl due ↦ inl due | inr store ↦ inr (inr (inl store)) ]
+
+no_reopen : IsCallRefusal refusals.Reopen → ⊥
+no_reopen (inl due) = not_true due
+no_reopen (inr store) = cc
+
+module _ {S : Type 0} (old new : Desk S) where
+  pub apply_named : (given : Result Reply Refusal) → (old.needs_reopening ≡ true → (given ≡ Err refusals.Reopen) × (new ≡ old))
+      → (old.needs_reopening ≡ false → IfErr given IsCallRefusal) → IfErr given (λ refusal. IsTrue (may_answer refusal) ⊎ IsOutage refusal)
+  apply_named (Ok reply) shut named = tt
+  apply_named (Err r) shut named = call_named old.needs_reopening r (λ closed. (let both = (shut closed).0 in cc)) named
+
+  pub apply_usable : (given : Result Reply Refusal) → old.needs_reopening ≡ false → (old.needs_reopening ≡ false → IfErr given IsCallRefusal) → given ≢ Err refusals.Reopen
+  apply_usable given usable named is = no_reopen (subst (λ r. IfErr r IsCallRefusal) is (named usable))
+
+-- ---- stops
+
+-- a call that only reads spares what was shown
+pub still_one : {S : Type 0} (g : sqlite.Ghosts S) (old new : Desk S) → ((owner : List ℕ) (cs : History) → ShowsDesk g old owner cs → Spares g old.conn new.conn)
+    → (owner : List ℕ) (cs : History) → ShowsDesk g old owner cs → LeavesOne (state g new.conn) owner cs cs
+still_one g old new spared owner cs was = record {
+  first = was.history;
+  next = was.history;
+  left = λ clean db may.
+      inl (still_leaves (λ db. HoldsHistory db owner cs) (state g old.conn) (state g new.conn) (spared owner cs was) was.left clean db may);
+}
+
+-- after a call there is the history before it, or the one after it
+one_is_left : (db : Trees) (owner : List ℕ) (cs later : History) (c : Call) → IsLeft cs c later → HoldsHistory db owner later
+    → HoldsHistory db owner cs ⊎ HoldsHistory db owner (next cs c)
+one_is_left db owner cs later c (inl same) holds = inl (subst (λ h. HoldsHistory db owner h) same holds)
+one_is_left db owner cs later c (inr one) holds = inr (subst (λ h. HoldsHistory db owner h) one holds)
+
+pub next_one : {S : Type 0} (g : sqlite.Ghosts S) (old new : Desk S) (c : Call) → IsCall c → MayStop g old new c
+    → (owner : List ℕ) (cs : History) → ShowsDesk g old owner cs → LeavesOne (state g new.conn) owner cs (next cs c)
+next_one g old new c formed stops owner cs was = record {
+  first = was.history;
+  next = next_history cs c was.history formed;
+  left = λ clean db may. (let left = stops owner cs was clean db may in one_is_left db owner cs left.0 c left.1 left.2);
+}

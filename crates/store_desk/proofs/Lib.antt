@@ -12,7 +12,7 @@ mod ShowingLemmas
 mod PersonLemmas
 mod QuestionLemmas
 pub mod ReopeningLemmas
-mod LivingLemmas
+pub mod LivingLemmas
 mod FilesLemmas
 mod RestartLemmas
 mod StreamLemmas

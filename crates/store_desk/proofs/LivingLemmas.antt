@@ -97,6 +97,48 @@ ends_then before events c fate cs later told ends turn =
       subst (λ es. MayLeave [] es later) (sym (events_then before events e)) (leave_then [] (events_of (and_now before events)) e cs later ends.2 turn),
     )
 
+-- ---- more events
+
+-- the history after events and more
+leave_more : (cs : History) (events more : List Event) (middle end : History) → MayLeave cs events middle → MayLeave middle more end → MayLeave cs (events ++ more) end
+leave_more cs [] more middle end left after = subst (λ h. MayLeave h more end) left after
+leave_more cs (x ∷ events) more middle end left after = (left.0, left.1, leave_more left.0 events more middle end left.2 after)
+
+-- the seen history may have left this one before, and by more events another
+pub since_more : (at : History) (since more : List Event) (cs later : History) → MayLeave at since cs → MayLeave cs more later → MayLeave at (since ++ more) later
+since_more at since more cs later left after = leave_more at since more cs later left after
+
+events_more : (before : List Life) (events more : List Event) → events_of (and_now before (events ++ more)) ≡ events_of (and_now before events) ++ more
+events_more before events more =
+    events_now before (events ++ more) ∙ sym (append_assoc (events_of before) events more) ∙ ap (λ es. es ++ more) (sym (events_now before events))
+
+-- where no call was stopped, one of the next may be
+stop_in_more : (events more : List Event) → list_all is_told events ≡ true → ends_at_a_stop more ≡ true → ends_at_a_stop (events ++ more) ≡ true
+stop_in_more [] more told ends = ends
+stop_in_more (e ∷ events) more told ends = by e.item e.fate (λ h. stop_in_more events more h ends) told
+  where
+    by : (i : Item) (fate : Fate) → (list_all is_told events ≡ true → ends_at_a_stop (events ++ more) ≡ true)
+        → list_all is_told (record { item = i; fate = fate } ∷ events) ≡ true → ends_at_a_stop (record { item = i; fate = fate } ∷ (events ++ more)) ≡ true
+    by i (Answered reply) after h = after h
+    by i Refused after h = after h
+    by i Stopped after h = cc
+
+-- a history that the lives may leave, after more events of the last
+pub ends_more : (before : List Life) (events more : List Event) (cs later : History) → IsTrue (list_all is_told events) → are_by Second more ≡ true
+    → ends_at_a_stop more ≡ true → Ends (and_now before events) cs → MayLeave cs more later → Ends (and_now before (events ++ more)) later
+ends_more before events more cs later told by_second stops ends left =
+    let was : Life = record { rules = Second; opening = Opened; events = events } in
+    let is : Life = record { rules = Second; opening = Opened; events = events ++ more } in
+    let parts = and_parts (list_all is_life before) (list_all is_life (was ∷ [])) (sym (list_all-append is_life before (was ∷ [])) ∙ ends.0) in
+    let own = and_parts (is_life was) true parts.1 in
+    let by = and_parts (are_by Second events) (ends_at_a_stop events) own.0 in (
+      list_all-append is_life before (is ∷ [])
+          ∙ all_three (list_all is_life before) (are_by Second (events ++ more)) (ends_at_a_stop (events ++ more)) parts.0
+          (list_all-append (λ (e : Event). are_rules Second e.item.rules) events more ∙ (rw (by.0, by_second) refl)) (stop_in_more events more told stops),
+      order_next before is refl (order_front before (was ∷ []) ends.1),
+      subst (λ es. MayLeave [] es later) (sym (events_more before events more)) (leave_more [] (events_of (and_now before events)) more cs later ends.2 left),
+    )
+
 -- one more life by the second rules, without calls, leaves the history unchanged
 ends_after : (lives : List Life) (last : Life) (cs : History) → is_life last ≡ true → is_second_life last ≡ true → last.events ≡ [] → Ends lives cs → Ends (lives ++ last ∷ []) cs
 ends_after lives last cs life second none ends = (

@@ -11,5 +11,6 @@ pub mod Acts
 pub mod Closed
 pub mod Exports
 pub mod Showing
+pub mod Answering
 pub mod Living
 pub mod Impacts

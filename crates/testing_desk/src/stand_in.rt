@@ -313,6 +313,10 @@ impl AnswersCalls for StandIn {
 
     ghost failed = { λ desk. desk.has_failed ≡ true };
 
+    ghost leaves = { λ _ _ _ _. ⊥ };
+
+    ghost rests = { λ _ _ _ none. none };
+
     fn person_of(&mut self, token: &Digest) -> Result<Option<Person>, Refusal> {
         if self.has_failed {
             return Err(Refusal::Reopen);

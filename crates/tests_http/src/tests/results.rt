@@ -6,7 +6,7 @@ use std::alloc::Global;
 use std::io::ErrorKind;
 use std::test::Fail;
 use testing::{Narrow, Slow, bytes_of};
-use testing_desk::StandIn;
+use testing_desk::{Failing, StandIn};
 
 /// A request for the level.
 const LEVEL: &str = "GET /level HTTP/1.1|Desk-Token: olga-token-000001||";
@@ -136,5 +136,27 @@ fn tells_that_the_desk_failed_before(rt: HostRuntime) -> Result<(), Fail> {
     assert!(rt; failed == unavailable(Outage::Store), "Store");
     assert!(rt; after == unavailable(Outage::Reopen), "Reopen");
     assert!(rt; again == unavailable(Outage::Reopen), "Reopen again");
+    Ok(())
+}
+
+/// The result of a desk of three calls for a command under which its store fails, and the number of
+/// calls that it then keeps.
+fn kept_by_a_failing_store(
+    alloc: Global,
+    input: &[u8],
+) -> Result<(Result<Served, HttpFault>, u64), Fail> {
+    let mut desk = Failing::new(alloc, 3).ok_or("a desk")?;
+    let mut reader = input;
+    let mut writer = Vec::new(alloc);
+    let served = served(alloc, &mut desk, &mut reader, &mut writer);
+    Ok((served, desk.calls))
+}
+
+#[test]
+fn keeps_its_calls_where_the_store_fails(rt: HostRuntime) -> Result<(), Fail> {
+    let store = bytes_of(rt.alloc(), STORE)?;
+    let (served, calls) = kept_by_a_failing_store(rt.alloc(), store.as_slice())?;
+    assert!(rt; served == unavailable(Outage::Store), "Store");
+    assert!(rt; calls == 3, "three calls");
     Ok(())
 }

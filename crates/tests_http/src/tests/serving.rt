@@ -1,4 +1,5 @@
 //! The service of an input.
+use desk_exports::AnswersCalls;
 use http_exchange::{HttpFault, RequestReader, Served, serve_one};
 use http_requests::Routes;
 use std::alloc::Global;
@@ -8,9 +9,9 @@ use testing::bytes_of;
 use testing_desk::StandIn;
 
 /// The result of `serve_one` with this desk.
-pub(super) fn served<R: Read, W: Write>(
+pub(super) fn served<D: AnswersCalls, R: Read, W: Write>(
     alloc: Global,
-    desk: &mut StandIn,
+    desk: &mut D,
     reader: &mut R,
     writer: &mut W,
 ) -> Result<Served, HttpFault> {

@@ -17,3 +17,7 @@ returns-clause-closed g c was =
       shut_task c.args.call.person c.args.call.task (λ cs. is_mismatch cs c.args.call) c.answer_task.result (λ cs. sym c.if-is_other.false ∙ mine.1 cs) shut.0,
       shut.1 ∙ mine.0,
     )
+
+pub returns-clause-gives : goal.returns-clause-gives
+returns-clause-gives g c clean owner cs was =
+    c.answer_task.ensures.gives clean owner cs (c.in-Ok.ensures.same (c.answer_task.ensures.before clean) (λ e. cc) owner cs was)

@@ -1,5 +1,5 @@
 use Rattle.std.proofs.Common.{rules}
-use Rattle.store_desk.proofs.AnsweringLemmas.{reading_named, reading_usable}
+use Rattle.store_desk.proofs.AnsweringLemmas.{reading_named, reading_usable, still_one}
 use Rattle.store_desk.proofs.answering.DeskAnswersCalls.read.Goals as goal
 
 pub returns-clause-fails : goal.returns-clause-fails
@@ -10,3 +10,6 @@ returns-clause-fails g c = record {
   poisons = c.read.ensures.reads.poisons;
   closed = search rules;
 }
+
+pub returns-clause-stopped : goal.returns-clause-stopped
+returns-clause-stopped g c = still_one g.S.Store c.args.self.now c.read.new.self c.read.ensures.reads.spares
