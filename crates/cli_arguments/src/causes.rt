@@ -37,7 +37,7 @@ fn named(file: &str) -> Option<&str> {
 }
 
 /// The files that the subcommand opens.
-pub(crate) fn opened_by(words: Words<'_>) -> Opened<'_> {
+pub fn opened_by(words: Words<'_>) -> Opened<'_> {
     match words {
         Words::Init { db, owner: _ } => Opened {
             db: Some((db, true)),

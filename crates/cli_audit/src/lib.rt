@@ -13,6 +13,6 @@ mod writing;
 
 pub use auditing::{audit_file, audit_input};
 pub use fault::fault_row;
-pub use running::run_audit;
+pub use running::{audit_named, is_input};
 pub use store_minutes::LineWatch;
 pub use writing::say_told;

@@ -2,9 +2,7 @@
 #![tactic(auto)]
 
 mod foretelling;
-mod running;
 mod working;
 
 pub use foretelling::foretell_from;
-pub use running::{run_add, run_export, run_impact, run_init, run_verdict};
 pub use working::{add_person, export_from, judge_image};

@@ -5,4 +5,4 @@ mod following;
 mod running;
 
 pub use following::follow_input;
-pub use running::run_follow;
+pub use running::follow_named;

@@ -3,8 +3,6 @@
 
 mod living;
 mod requests;
-mod running;
 
 pub use living::requests_make_lives;
 pub use requests::{answer_from, serve_from};
-pub use running::{run_answer, run_serve};

@@ -1,26 +1,22 @@
 //! The Secure Boot signing and revocation desk.
 #![tactic(auto)]
 
-use cli_arguments::{Job, Todo, given_words, job_or_done, tell_ending};
-use cli_audit::run_audit;
-use cli_files::{run_add, run_export, run_impact, run_init, run_verdict};
-use cli_follow::run_follow;
+mod at_files;
+
+use crate::at_files::AtFiles;
+use base::Refusal;
+use cli_arguments::{Stop, Words, given_words, opened_by, run_words, tell_run, words_in};
 use cli_output::Ending;
-use cli_requests::{run_answer, run_serve};
+use sqlite::Unknown;
+use std::io::BufWriter;
 use std::process::ExitCode;
 
-/// Does a subcommand's job at a desk.
-fn run(rt: &HostRuntime, job: Job<'_>) -> Ending {
-    match job {
-        Job::Init { db, owner } => run_init(rt, db, &owner),
-        Job::Add { db, key, person } => run_add(rt, db, key, person),
-        Job::Follow { db, owner, file } => run_follow(rt, db, &owner, file),
-        Job::Serve { db, place } => run_serve(rt, db, place.port, place.count),
-        Job::Answer { db } => run_answer(rt, db),
-        Job::Judge { db, file } => run_verdict(rt, db, file),
-        Job::Foretell { db, number } => run_impact(rt, db, number),
-        Job::Export { db, what } => run_export(rt, db, what),
-        Job::Audit { owner, file, what } => run_audit(rt, &owner, file, what),
+/// Does what a subcommand's words mean. What it prints goes through a buffer to the standard
+/// output.
+fn run_buffered(rt: &HostRuntime, words: Words<'_>) -> Result<Ending, Stop> {
+    match BufWriter::new(rt.alloc(), rt.stdout()) {
+        Ok(mut out) => run_words(rt, AtFiles { start: Unknown }, words, rt.stdin(), &mut out),
+        Err(_) => Ok(Ending::without_desk(Refusal::NoMemory)),
     }
 }
 
@@ -29,9 +25,8 @@ fn main(rt: HostRuntime) -> ExitCode {
         Ok(given) => given,
         Err(status) => return ExitCode::from(status),
     };
-    match job_or_done(&rt, &given) {
-        Ok(Todo::AtDesk(job, opened)) => ExitCode::from(tell_ending(&rt, run(&rt, job), opened)),
-        Ok(Todo::Done) => ExitCode::SUCCESS,
+    match words_in(&rt, &given) {
+        Ok(words) => ExitCode::from(tell_run(&rt, run_buffered(&rt, words), opened_by(words))),
         Err(status) => ExitCode::from(status),
     }
 }

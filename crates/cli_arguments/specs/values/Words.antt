@@ -1,8 +1,10 @@
 -- The words of a subcommand that have a form.
-use Rattle.std.specs.Prelude.{◌≡◌, ◌⊎◌, ℕ, List, Option, IfSome, codes}
+use Rattle.std.specs.Prelude.{◌≡◌, ◌≢◌, ◌⊎◌, ℕ, List, codes, decimal, true}
+use Rattle.base.specs.Guids.{IsGuidText}
 use Rattle.base.specs.declared.refusal.Refusal.TheVariants as refusals
 use Rattle.cli_output.specs.Faults.{row_of}
 use Rattle.cli_output.specs.declared.fault.Fault.{Fault}
+use Rattle.desk_types.specs.Forms.{is_proposal_number}
 use Rattle.cli_arguments.specs.declared.values.stop.Stop.{Stop}
 use Rattle.cli_arguments.specs.declared.values.stop.Stop.TheVariants as stops
 use Rattle.cli_arguments.specs.declared.values.stop.Word.{Word}
@@ -28,8 +30,11 @@ of_fault fault = stops.Fault fault
 abbrev pub StopsBy : Word → Type 0 → Stop → Type 0
 StopsBy w wrong why = ((why ≡ stops.Word w) × wrong) ⊎ (why ≡ stops.Fault (row_of refusals.NoMemory))
 
--- the token stops it, if the first line of the input has none (`lacks`), or the input does
-abbrev pub StopsByToken : (List ℕ → Type 0) → Option (List ℕ) → Stop → Type 0
-StopsByToken lacks given why =
-    ((why ≡ stops.Word word.Token) × IfSome given lacks)
-    ⊎ ((why ≡ stops.Fault (row_of refusals.Read)) ⊎ (why ≡ stops.Fault (row_of refusals.NoMemory)))
+-- own: the word is no text of a GUID, and stops the subcommand
+abbrev pub IsWrongOwner : List ℕ → Stop → Type 0
+IsWrongOwner text why = (why ≡ stops.Word word.Owner) × ((guid : List ℕ) → IsGuidText text guid → ⊥)
+
+-- own: the word isn't the number of a proposal in decimal digits, and stops the subcommand
+abbrev pub IsWrongNumber : List ℕ → Stop → Type 0
+IsWrongNumber text why =
+    (why ≡ stops.Word word.Number) × ((number : ℕ) → is_proposal_number number ≡ true → text ≢ decimal number)

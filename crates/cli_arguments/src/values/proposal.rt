@@ -1,6 +1,6 @@
 //! The number of a proposal among the words of a command line.
-ghost use Rattle.std.specs.Prelude.{◌≡◌, ◌≢◌, ℕ, IfErr, IfOk, decimal, true};
-ghost use Rattle.desk_types.specs.Forms.{is_proposal_number};
+ghost use Rattle.std.specs.Prelude.{◌≡◌, IfErr, IfOk, decimal};
+ghost use Rattle.cli_arguments.specs.values.Words.{IsWrongNumber};
 
 use crate::values::stop::{Stop, Word};
 use desk_types::ProposalNumber;
@@ -9,8 +9,7 @@ use desk_types::ProposalNumber;
 /// memory.
 pub fn proposal_from(text: &str) -> Result<ProposalNumber, Stop>
     ensures ok { IfOk result (λ number. text.now ≡ decimal number) }
-    ensures err { IfErr result (λ why. (why ≡ Stop.Word Word.Number)
-        × ((number : ℕ) → is_proposal_number number ≡ true → text.now ≢ decimal number)) }
+    ensures err { IfErr result (IsWrongNumber text.now) }
 {
     match ProposalNumber::parse(text.as_bytes()) {
         Some(number) => Ok(number),

@@ -1,6 +1,6 @@
 use Rattle.std.proofs.Common.{inl, refl}
 use Rattle.desk_inputs.proofs.FirstWordLemmas.{given_digest-long, given_digest-none}
-use Rattle.cli_arguments.proofs.values.enrolled.token_digest_from.Goals as goal
+use Rattle.cli_arguments.proofs.values.token.token_digest_from.Goals as goal
 
 pub returns-in-Ok-None-clause-err : goal.returns-in-Ok-None-clause-err
 returns-in-Ok-None-clause-err g c =

@@ -1,6 +1,6 @@
 use Rattle.std.proofs.Common.{inl, refl}
 use Rattle.desk_inputs.proofs.TokenLemmas.{HasNoToken-long, HasNoToken-none}
-use Rattle.cli_arguments.proofs.values.person.token_from.Goals as goal
+use Rattle.cli_arguments.proofs.values.token.token_from.Goals as goal
 
 pub returns-in-Ok-None-clause-err : goal.returns-in-Ok-None-clause-err
 returns-in-Ok-None-clause-err g c =
