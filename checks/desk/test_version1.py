@@ -1,7 +1,7 @@
 """A file of version 1 (examples/version-1) becomes one of version 2 at its first opening.
 
-Each subcommand with DB but `init` opens it; it keeps its calls and exports, and the next opening
-writes nothing. Earlier keys and revocations still count; images of before are in the impacts of new
+Each subcommand with DB but `init` opens it, `follow` for its owner alone; it keeps its calls and
+exports, and the next opening writes nothing. Earlier keys and revocations still count; images of before are in the impacts of new
 proposals; an audit passes its minutes, with calls of before and new ones. A file with the same
 tables and rows, made in the opposite order, has the same exports, and the same day at the served
 desk."""
@@ -80,23 +80,25 @@ def test_follow_opens_it_and_it_lacks_none_of_its_own_minutes(desk: Program, ope
     assert told.startswith(b"calls %d\n" % MINUTES.count(10)), told
 
 
-@pytest.mark.parametrize(
-    "owner, old, line",
-    (
-        (ANOTHER_OWNER, b"", b"refused 48 Owner\n"),
-        (OWNER, b"\tconsole\t", b"refused 47 Minute at 1\n"),
-    ),
-)
-def test_a_follow_that_is_refused_opens_it_too(
-    desk: Program, opened: str, owner: str, old: bytes, line: bytes
-) -> None:
-    """By another owner, or by a first line by somebody else: it is of version 2 by then, and has
-    its own calls alone."""
-    minutes = MINUTES.replace(old, b"\tnobody\t", 1) if old else MINUTES
-    desk.ends(1, b"", line, "follow", opened, owner, "-", given=minutes)
+def test_a_follow_that_is_refused_opens_it_too(desk: Program, opened: str) -> None:
+    """By a first line by somebody else: it is of version 2 by then, and has its own calls alone."""
+    minutes = MINUTES.replace(b"\tconsole\t", b"\tnobody\t", 1)
+    line = b"refused 47 Minute at 1\n"
+    desk.ends(1, b"", line, "follow", opened, OWNER, "-", given=minutes)
     with contextlib.closing(sqlite3.connect(f"file:{opened}?immutable=1", uri=True)) as store:
         rows = store.execute("SELECT version, calls FROM desk, migrated").fetchall()
     expect(rows, [(2, MINUTES.count(10))], "its version, and the calls of before")
+
+
+def test_a_follow_for_another_owner_only_reads_it(desk: Program, path: str) -> None:
+    """The owner is compared before the file would become one of version 2."""
+    before = Path(path).read_bytes()
+    line = b"refused 48 Owner\n"
+    desk.ends(1, b"", line, "follow", path, ANOTHER_OWNER, "-", given=MINUTES)
+    expect(Path(path).read_bytes(), before, "the file")
+    log = Path(f"{path}-wal")
+    expect(log.read_bytes() if log.exists() else b"", b"", "its log")
+    keeps(desk, path)
 
 
 def test_verdict_answer_impact_and_serve_open_it(desk: Program, path: str) -> None:

@@ -22,10 +22,6 @@ IsRunRefusal watch refusal = (IsDeskFailure refusal ⊎ IsReadFault watch refusa
 abbrev pub IsRunRow : LineWatch → Fault → Type 0
 IsRunRow watch fault = ((n : ℕ) × (fault ≡ wrong_line n)) ⊎ IsRow (IsRunRefusal watch) fault
 
--- own: no desk is found or made, or it has another owner
-abbrev pub IsUnrunRefusal : Refusal → Type 0
-IsUnrunRefusal refusal = IsFindingRefusal refusal ⊎ (refusal ≡ refusals.Owner)
-
 -- own: the rows for `follow`
 abbrev pub IsFollowRow : LineWatch → Fault → Type 0
-IsFollowRow watch fault = IsRow IsUnrunRefusal fault ⊎ IsRunRow watch fault
+IsFollowRow watch fault = IsRow IsFindingRefusal fault ⊎ IsRunRow watch fault

@@ -80,7 +80,8 @@ module _ {S : Type 0} (g : store.Ghosts S) where
 
 -- ---- over files
 
--- own: no desk was found or made in the files that held `first`: this is the refusal, and what is left
+-- own: no desk of this owner was found or made in the files that held `first`: this is the refusal,
+-- and what is left
 pub record IsUnfound {D S : Type 0} (g : Ghosts D) (first : start.Ghosts S) (owner : List ℕ) (ending : Ended D g) : Type 0 where
   pub refusal : Refusal
   pub told : ending_of ending ≡ unopened refusal
@@ -95,14 +96,6 @@ pub record AtFoundOrMade {D S : Type 0} {g : Ghosts D} (first : start.Ghosts S) 
   pub done : did desk
 
 module _ {D : Type 0} (g : Ghosts D) where
-  -- the desk has another owner: it was closed as it was found, and nothing was written
-  pub record IsOfAnother (owner : List ℕ) (desk : Desk (FileStore D g)) (before after : Option (List ℕ)) (ending : Ended D g) : Type 0 where
-    pub other : desk.owner ≢ owner
-    pub told : ending.work ≡ Err (row_of refusals.Owner)
-    pub silent : Keeps before after
-    pub ended : Ends g desk (ending_of ending)
-    pub kept : IsLeft g desk (ending_of ending) ending.left.rest
-
   -- a run left the desk so, and it was then closed
   pub record RunsAt (desk : Desk (FileStore D g)) (given before after : Option (List ℕ)) (watch : LineWatch) (ending : Ended D g) : Type 0 where
     pub left : Desk (FileStore D g)
@@ -122,13 +115,11 @@ module _ {D : Type 0} (g : Ghosts D) where
     pub stopped : ForEachStart over_files desk given (λ s. LeavesRun (state over_files conn) s)
     pub clean : HasCleanDisk (state over_files conn) → HasCleanDisk (state over_files desk.conn)
 
-  -- the desk of this owner runs over the bytes
+  -- the desk runs over the bytes
   abbrev pub RunsOn : Desk (FileStore D g) → Option (List ℕ) → Option (List ℕ) → Option (List ℕ) → LineWatch → Ended D g → Type 0
   RunsOn desk given before after watch ending =
       RunsAt desk given before after watch ending ⊎ LosesDesk desk given before after watch ending
 
-  -- it does, if it has this owner
-  abbrev pub Follows : List ℕ → Option (List ℕ) → Option (List ℕ) → Option (List ℕ) → LineWatch → Ended D g → Desk (FileStore D g) → Type 0
-  Follows owner given before after watch ending desk =
-      IsOfAnother owner desk before after ending
-      ⊎ ((desk.owner ≡ owner) × RunsOn desk given before after watch ending)
+  -- the same, of the desk
+  abbrev pub Follows : Option (List ℕ) → Option (List ℕ) → Option (List ℕ) → LineWatch → Ended D g → Desk (FileStore D g) → Type 0
+  Follows given before after watch ending desk = RunsOn desk given before after watch ending

@@ -13,13 +13,13 @@ ghost use Rattle.cli_follow.specs.Runs.{RunsOn, Tells};
 use base::{Guid, Refusal};
 use cli_audit::{LineWatch, fault_row, say_told};
 use cli_opening::{Ended, Left, Worked, close_after, open_or_make};
-use cli_output::{Buffered, Fault, WorkOutcome};
+use cli_output::{Buffered, WorkOutcome};
 use sqlite::{Alter, Connection, FileFrom, FileStore, Start};
 use sqlite_disk::Disk;
 use std::alloc::Global;
 use std::io::{BufRead, BufReader, Read};
 use store_desk::Desk;
-use store_follow::{Followed, follow, has_owner};
+use store_follow::{Followed, follow};
 
 /// Writes what is printed of a desk after a run, and returns the desk.
 fn tell<S: Alter + Drop, W: Buffered>(mut desk: Desk<S>, calls: u64, writer: &mut W) -> Worked<S>
@@ -102,38 +102,12 @@ fn follow_and_close<D: Disk + Drop, R: BufRead, W: Buffered>(
     }
 }
 
-/// The same, if the desk has this owner. If it has another, it is closed, and the reader isn't
-/// asked.
-fn follow_on_desk<D: Disk + Drop, R: BufRead, W: Buffered>(
-    alloc: Global,
-    desk: Desk<FileStore<D>>,
-    owner: &Guid,
-    reader: &mut R,
-    watch: &mut LineWatch,
-    writer: &mut W,
-) -> Ended<D>
-    ensures followed { Follows D.Disk owner.now (R.remaining reader.old)
-        (W.contents writer.old) (W.contents writer.new) watch.new result desk }
-    ensures owner { IfErr result.work (λ fault. fault.refusal ≡ Refusal.Owner
-        → (reader.new ≡ reader.old) × (watch.new ≡ watch.old) × (writer.new ≡ writer.old)) }
-    ensures done { IfOk result.work (λ outcome. outcome ≡ WorkOutcome.Done) }
-    ensures flushed { OnOk result.work (W.flushed writer.new) }
-    ensures closing { IfSome result.closing (IsRow IsClosingRefusal) }
-    ensures let_go { IfErr result.work (λ fault. IsLasting fault.refusal → result.closing ≡ None) }
-{
-    if has_owner(&desk, owner) {
-        follow_and_close(alloc, desk, reader, watch, writer)
-    } else {
-        close_after(desk, Err(Fault::from(Refusal::Owner)))
-    }
-}
-
 /// Follows the minutes of an input on the desk in a file, which is made if it is missing, and
 /// prints the lines of an audit of the desk. What is left of the desk's files is returned. Takes
 /// memory for one line, and the store's.
 ///
 /// The faults of the desk's file come first. File, NotADesk, Version: no desk is found in it or
-/// made. Owner: the desk has another. Minute: the place is the first line that isn't that of the
+/// made. Owner: the desk has another; it was only read, whatever its version. Minute: the place is the first line that isn't that of the
 /// desk, or what the rules give; a last line without a line break is such a line. Read: a read
 /// failed, or was interrupted. Write: all was followed, and a prefix of the lines may be written.
 /// NoMemory: memory was refused. Store: the store failed. Reopen: it had failed before. After a
@@ -149,8 +123,7 @@ pub fn follow_input<S: Start, R: Read + Drop, W: Buffered>(
 ) -> Ended<FileFrom<S>>
     ensures followed { (IsUnfound ⟦<FileFrom<S> as Disk>⟧ S.Start owner.now result
         × (watch.new ≡ watch.old) × (writer.new ≡ writer.old))
-        ⊎ AtFoundOrMade S.Start owner.now (Follows ⟦<FileFrom<S> as Disk>⟧ owner.now
-        (R.remaining reader)
+        ⊎ AtFoundOrMade S.Start owner.now (Follows ⟦<FileFrom<S> as Disk>⟧ (R.remaining reader)
         (W.contents writer.old) (W.contents writer.new) watch.new result) }
     ensures done { IfOk result.work (λ outcome. outcome ≡ WorkOutcome.Done) }
     ensures flushed { OnOk result.work (W.flushed writer.new) }
@@ -164,10 +137,10 @@ pub fn follow_input<S: Start, R: Read + Drop, W: Buffered>(
 {
     let mut reader = match BufReader::new(rt.alloc(), reader) {
         Ok(reader) => reader,
-        Err(_) => return Ended::without_desk(Refusal::NoMemory, Left::nothing()),
+        Err(_) => return Ended::without_desk(Refusal::NoMemory, Left::unused(start)),
     };
     match open_or_make(rt, db, start, owner) {
-        Ok(desk) => follow_on_desk(rt.alloc(), desk, owner, &mut reader, watch, writer),
+        Ok(desk) => follow_and_close(rt.alloc(), desk, &mut reader, watch, writer),
         Err((refusal, left)) => Ended::without_desk(refusal, left),
     }
 }

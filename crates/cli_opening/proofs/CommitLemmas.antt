@@ -12,16 +12,18 @@ use Rattle.store_reads.specs.Failures.{IsFailure}
 use Rattle.store_schema.specs.Names.{takes_a_desk_name}
 use Rattle.store_schema.specs.Tables.{desk_layout, first_layout, no_schema}
 use Rattle.store_schema.specs.rows.Histories.{HoldsFirst, HoldsHistory, LeavesHistory, ShowsFirst, ShowsHistory, first_rows_of, rows_of}
+use Rattle.store_sql.proofs.CommitLemmas.{leaves_more}
 use Rattle.store_sql.specs.Contents.{AreTablesOf, Contents}
 use Rattle.store_sql.specs.Layouts.{Layout}
 use Rattle.store_sql.specs.States.{Leaves, Shows, Spares}
 use Rattle.store_desk.proofs.ReopeningLemmas.{no_failure}
 use Rattle.store_desk.specs.Desks.{ShowsDesk}
+use Rattle.store_desk.specs.Owners.{IsOfAnother, RefusesToOpen}
 use Rattle.store_desk.specs.Steps.{Brings}
 use Rattle.store_desk.specs.declared.desk.Desk.{Desk}
 use Rattle.cli_opening.specs.Faults.{IsFindingRefusal, IsMakingRefusal}
 use Rattle.cli_opening.specs.Opening.{FindsOrMakes, HoldsTables, Makes, Opens}
-use Rattle.cli_opening.specs.Refusing.{RefusesDesk, RefusesFinding, RefusesMaking}
+use Rattle.cli_opening.specs.Refusing.{IsAnothers, RefusesDesk, RefusesFinding, RefusesMaking, RefusesOwned}
 
 module _ {S : Type 0} (g : Ghosts S) (conn : Held S) where
   -- so a desk that is opened over it shows the history of these tables
@@ -38,8 +40,9 @@ module _ {S : Type 0} (g : Ghosts S) (conn : Held S) where
   found_of_commit desk second first stop shows migrated live owner cs history (inr holds) = migrated owner cs history (first owner cs holds)
 
   -- a desk that was opened is found
-  pub found_opened : (owner : List ℕ) (desk : Desk S) → Opens g conn desk → FindsOrMakes g conn owner desk
-  found_opened owner desk opens = record {
+  pub found_opened : (owner : List ℕ) (desk : Desk S) → desk.owner ≡ owner → Opens g conn desk → FindsOrMakes g conn owner desk
+  found_opened owner desk own opens = record {
+    own = own;
     either = inl opens;
     found = λ clean live earlier cs long. opens.found clean live earlier cs;
     lives = λ clean earlier lives seen long. opens.lives clean earlier lives seen;
@@ -91,6 +94,47 @@ module _ {S : Type 0} (g : Ghosts S) (conn : Held S) where
   known_of_commit refusal second first fails fails_first owner cs long history (inl holds) = fails owner cs long history (second owner cs holds)
   known_of_commit refusal second first fails fails_first owner cs long history (inr holds) = fails_first owner cs long history (first owner cs holds)
 
+  -- ---- an opening that is refused because the desk has another owner
+
+  of_anothers : (last : Held S) (owner : List ℕ) (refusal : Refusal)
+      → ((earlier : List ℕ) (cs : History) → HoldsHistory (state g conn).committed.trees earlier cs → ShowsHistory (state g conn) earlier cs)
+      → ((earlier : List ℕ) (cs : History) → HoldsFirst (state g conn).committed.trees earlier cs → ShowsFirst (state g conn) earlier cs)
+      → ((layout : Layout) (c : Contents) → Shows layout (state g conn) c → IsTrue (state g conn).is_open → Leaves (state g conn) (λ db. AreTablesOf layout db c))
+      → refusal ≡ refusals.Owner → IsOfAnother g conn owner last → IsAnothers g conn owner refusal last
+  of_anothers last owner refusal second first stop is of = record {
+    is = is;
+    of = of;
+    other = λ clean earlier cs held. elim held [
+      | inl holds ↦ of.other clean earlier cs (inr (second earlier cs holds))
+      | inr holds ↦ of.other clean earlier cs (inl (first earlier cs holds))
+    ];
+    left = refused_left last second first stop (λ earlier cs shows. of.spares) (leaves_more (Brings (state g conn)) (state g conn) (state g last) of.spares);
+  }
+
+  pub owned_refused : (last : Held S) (owner : List ℕ) (refusal : Refusal)
+      → ((earlier : List ℕ) (cs : History) → HoldsHistory (state g conn).committed.trees earlier cs → ShowsHistory (state g conn) earlier cs)
+      → ((earlier : List ℕ) (cs : History) → HoldsFirst (state g conn).committed.trees earlier cs → ShowsFirst (state g conn) earlier cs)
+      → ((layout : Layout) (c : Contents) → Shows layout (state g conn) c → IsTrue (state g conn).is_open → Leaves (state g conn) (λ db. AreTablesOf layout db c))
+      → ((refusal ≡ refusals.Owner) × IsOfAnother g conn owner last) ⊎ RefusesToOpen g conn refusal last → RefusesOwned g conn owner refusal last
+  owned_refused last owner refusal second first stop (inl (is, of)) = inl (of_anothers last owner refusal second first stop is of)
+  owned_refused last owner refusal second first stop (inr refuses) = inr (record {
+    other = refuses.other;
+    none = refuses.unread;
+    finds = refuses.found;
+    known = λ clean. known_of_commit refusal second first
+        (λ owner cs long history shows. (refuses.known clean owner cs long history shows).0)
+        (λ owner cs long history shows. (refuses.known_first clean owner cs long history shows).0);
+    spares = refuses.refused;
+    second = refuses.spared;
+    stopped = refuses.failed;
+    left = refused_left last second first stop refuses.spared refuses.failed;
+  })
+
+  -- that there is no desk isn't that it has another owner
+  pub none_refused : (last : Held S) (owner : List ℕ) (refusal : Refusal) → refusal ≡ refusals.NotADesk → RefusesOwned g conn owner refusal last → RefusesDesk g conn refusal last
+  none_refused last owner refusal is (inl another) = absurd (let e = sym is ∙ another.is in cc)
+  none_refused last owner refusal is (inr refused) = refused
+
   -- ---- a desk that is made where there was none
 
   clean_before : (last : Held S) (refusal : Refusal) → RefusesDesk g conn refusal last → HasCleanDisk (state g last) → HasCleanDisk (state g conn)
@@ -99,7 +143,8 @@ module _ {S : Type 0} (g : Ghosts S) (conn : Held S) where
   pub found_made : (last : Held S) (refusal : Refusal) (owner : List ℕ) (desk : Desk S) → refusal ≡ refusals.NotADesk → RefusesDesk g conn refusal last
       → (state g conn).now.schema ≡ no_schema → (state g last).now.schema ≡ no_schema → Makes g last owner desk → FindsOrMakes g conn owner desk
   found_made last refusal owner desk is refused was_bare bare makes = record {
-    either = inr (was_bare, makes.own, λ clean. makes.shows clean bare);
+    own = makes.own;
+    either = inr (was_bare, λ clean. makes.shows clean bare);
     found = λ clean live earlier cs long history holds. absurd (no_failure refusal is (refused.known (makes.clean clean) earlier cs long history holds));
     lives = λ clean earlier lives seen long formed holds. absurd ((refused.finds (makes.clean clean) earlier lives seen long formed holds).0 is);
     clean = λ clean. clean_before last refusal refused (makes.clean clean);
@@ -118,10 +163,16 @@ module _ {S : Type 0} (g : Ghosts S) (conn : Held S) where
       }
 
   -- no desk was opened, and there is no room for one
-  pub unfound : (last : Held S) (refusal : Refusal) (owner : List ℕ) → RefusesDesk g conn refusal last → RefusesFinding g conn owner refusal last
-  unfound last refusal owner refused = record {
-    either = inl refused;
-    known = refused.known;
+  pub unfound : (last : Held S) (refusal : Refusal) (owner : List ℕ) → RefusesOwned g conn owner refusal last → RefusesFinding g conn owner refusal last
+  unfound last refusal owner (inl another) = record {
+    either = inl (inl another);
+    known = λ clean earlier cs long history holds. inr (another.is, another.other clean earlier cs holds);
+    left = λ live earlier cs long history holds. another.left live earlier cs holds;
+    clean = λ clean. omega (arith, another.of.spares.clean, clean);
+  }
+  unfound last refusal owner (inr refused) = record {
+    either = inl (inr refused);
+    known = λ clean earlier cs long history holds. inl (refused.known clean earlier cs long history holds);
     left = λ live earlier cs long history holds. refused.left live earlier cs holds;
     clean = clean_before last refusal refused;
   }
@@ -136,6 +187,12 @@ none_taken schema bare taken =
 
 pub finding_refusal : (schema : Schema) (refusal : Refusal) → schema ≡ no_schema → (refusal ≡ refusals.Exists → IsTrue (takes_a_desk_name schema))
     → IsMakingRefusal refusal → IsFindingRefusal refusal
-finding_refusal schema refusal bare taken (inl file) = inl file
+finding_refusal schema refusal bare taken (inl file) = inl (inl file)
 finding_refusal schema refusal bare taken (inr (inl exists)) = absurd (none_taken schema bare (taken exists))
-finding_refusal schema refusal bare taken (inr (inr failure)) = inr (inr (inr failure))
+finding_refusal schema refusal bare taken (inr (inr failure)) = inl (inr (inr (inr failure)))
+
+-- why a desk of an owner isn't opened
+pub owned_refusal : {S : Type 0} (g : Ghosts S) (conn last : Held S) (owner : List ℕ) (refusal : Refusal)
+    → ((refusal ≡ refusals.Owner) × IsOfAnother g conn owner last) ⊎ RefusesToOpen g conn refusal last → IsFindingRefusal refusal
+owned_refusal g conn last owner refusal (inl (is, of)) = inr is
+owned_refusal g conn last owner refusal (inr refuses) = inl (inr refuses.named)

@@ -69,7 +69,7 @@ some_rest first did Y ending rest (inr at) = inr (record { desk = at.desk; opene
 -- no desk was opened where memory was refused before
 pub unopened_for_memory : {D S : Type 0} (g : Ghosts D) (first : start.Ghosts S) (ending : Ending) → ending ≡ unopened refusals.NoMemory → IsUnopened g first ending
 unopened_for_memory g first ending is =
-    record { rest = Nothing; leaves = record { refusal = refusals.NoMemory; told = is; named = inl (inl refl); why = inl refl } }
+    record { rest = Nothing false; leaves = record { refusal = refusals.NoMemory; told = is; named = inl (inl refl); why = (inl refl, refl) } }
 
 -- the faults of work are among those of the opening or the work
 pub also : (P Q : Fault → Type 0) (work : Result WorkOutcome Fault) → IfErr work Q → IfErr work (λ fault. P fault ⊎ Q fault)

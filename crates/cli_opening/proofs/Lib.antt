@@ -1,3 +1,4 @@
 pub mod EndingLemmas
 mod CommitLemmas
 mod OpeningLemmas
+mod UnopenedLemmas

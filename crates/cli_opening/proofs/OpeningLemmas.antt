@@ -10,11 +10,9 @@ use Rattle.sqlite_disk.specs.declared.start.Start as start
 use Rattle.sqlite_store.specs.declared.store.FileStore.{FileStore}
 use Rattle.sqlite_trees.specs.Props.{Trees-set}
 use Rattle.sqlite_wal.specs.Files.{image_at}
-use Rattle.base.specs.declared.refusal.Refusal.{Refusal}
 use Rattle.desk_history.specs.Calls.{History}
 use Rattle.desk_history.specs.Formed.{IsHistory}
 use Rattle.desk_history.specs.Lives.{Life}
-use Rattle.store_reads.specs.Failures.{IsFailure}
 use Rattle.store_sql.specs.States.{Leaves}
 use Rattle.store_desk.specs.Headline.{FindsLives, HoldsLives, Seen}
 use Rattle.store_desk.specs.declared.desk.Desk.{Desk}
@@ -57,14 +55,14 @@ module _ {D S : Type 0} {g : Ghosts D} (first : start.Ghosts S) (conn : Held (Fi
   }
 
   -- what is refused over the last commit is refused over what the files held at first
-  pub is_refused : (refuses : Held (FileStore D g) → Type 0) (refusal : Refusal) (last : Held (FileStore D g)) → refuses conn
+  pub is_refused : (refuses : Held (FileStore D g) → Type 0) (may : List ℕ → Type 0) (last : Held (FileStore D g)) → refuses conn
       → (HasCleanDisk (file_state last) → (owner : List ℕ) (cs : History) → length owner ≡ 16 → IsHistory cs
-      → HoldsTables (file_state conn).committed.trees owner cs → IsFailure refusal)
+      → HoldsTables (file_state conn).committed.trees owner cs → may owner)
       → (IsTrue (file_state conn).is_open → (owner : List ℕ) (cs : History) → length owner ≡ 16 → IsHistory cs
       → HoldsTables (file_state conn).committed.trees owner cs → Leaves (file_state last) (λ db. HoldsTables db owner cs))
       → (HasCleanDisk (file_state last) → HasCleanDisk (file_state conn))
-      → IsRefusedOver g first refuses refusal last
-  is_refused refuses refusal last refused known left before = record {
+      → IsRefusedOver g first refuses may last
+  is_refused refuses may last refused known left before = record {
     conn = conn;
     over = over;
     refused = refused;

@@ -14,9 +14,9 @@ IsMakingRefusal refusal = IsFileRefusal refusal ⊎ ((refusal ≡ refusals.Exist
 abbrev pub IsOpeningRefusal : Refusal → Type 0
 IsOpeningRefusal refusal = IsFileRefusal refusal ⊎ ((refusal ≡ refusals.Version) ⊎ IsReadRefusal refusal)
 
--- own: no desk is opened, or made where there is no table: there no name is taken
+-- own: no desk of an owner is opened, or made where there is no table: there no name is taken
 abbrev pub IsFindingRefusal : Refusal → Type 0
-IsFindingRefusal refusal = IsOpeningRefusal refusal
+IsFindingRefusal refusal = IsOpeningRefusal refusal ⊎ (refusal ≡ refusals.Owner)
 
 -- the refusals for a close that fails: a device's, or that the desk must be opened again
 abbrev pub IsClosingRefusal : Refusal → Type 0

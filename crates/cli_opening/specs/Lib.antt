@@ -4,4 +4,5 @@ pub mod Leaving
 pub mod Opening
 pub mod Pages
 pub mod Refusing
+pub mod Unopened
 pub mod Works

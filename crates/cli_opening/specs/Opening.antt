@@ -64,11 +64,12 @@ module _ {S : Type 0} (g : Ghosts S) (conn : Held S) where
     pub spares : (owner : List ℕ) (cs : History) → ShowsHistory (state g conn) owner cs → Spares g conn desk.conn
     pub clean : HasCleanDisk (state g desk.conn) → HasCleanDisk (state g conn)
 
-  -- The desk was opened so; or it was made, in a store without tables, indexes and views: it shows
-  -- this owner and no calls. If the last commit has a desk's tables, with an owner of 16 bytes, it
+  -- The desk has this owner. It was opened so; or it was made, in a store without tables, indexes and
+  -- views: it shows this owner and no calls. If the last commit has a desk's tables, with an owner of 16 bytes, it
   -- wasn't made: it shows their history.
   pub record FindsOrMakes (owner : List ℕ) (desk : Desk S) : Type 0 where
-    pub either : Opens desk ⊎ (((state g conn).now.schema ≡ no_schema) × (desk.owner ≡ owner) × (HasCleanDisk (state g desk.conn) → ShowsDesk g desk owner []))
+    pub own : desk.owner ≡ owner
+    pub either : Opens desk ⊎ (((state g conn).now.schema ≡ no_schema) × (HasCleanDisk (state g desk.conn) → ShowsDesk g desk owner []))
     pub found : HasCleanDisk (state g desk.conn) → IsTrue (state g conn).is_open → (earlier : List ℕ) (cs : History) → length earlier ≡ 16
         → IsHistory cs → HoldsTables (state g conn).committed.trees earlier cs → ShowsDesk g desk earlier cs
     pub lives : HasCleanDisk (state g desk.conn) → (earlier : List ℕ) (lives : List Life) (seen : Seen) → length earlier ≡ 16

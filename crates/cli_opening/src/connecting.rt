@@ -1,18 +1,19 @@
 //! A connection to the file at a path, with room for its pages.
-ghost use Rattle.std.specs.Prelude.{◌≡◌, ◌⊎◌, IfErr, IfOk, IsTrue, false, true};
+ghost use Rattle.std.specs.Prelude.{◌≡◌, IfErr, IfOk, OnOk, false, true};
+ghost use Rattle.cli_output.specs.Faults.{IsFileRefusal};
 ghost use Rattle.cli_opening.specs.Pages.{pages_for};
+ghost use Rattle.cli_opening.specs.Unopened.{IsUnconnected};
 ghost use Rattle.sqlite.specs.Files.{IsOpened, file_state};
 ghost use Rattle.sqlite.specs.Start.{FindsIn};
 ghost use Rattle.sqlite.specs.State.{HasCleanDisk};
-ghost use Rattle.sqlite_std_file.specs.File.{IsFresh, file_is_usable};
 ghost use Rattle.sqlite_wal.specs.Files.{image_at};
 
+use crate::opener::Opener;
 use base::Refusal;
-use sqlite::{Connection, Error, ErrorCode, FileFrom, FileStore, Files, Options, Start};
-use sqlite_std_file::OpenError;
+use sqlite::{Connection, Error, ErrorCode, FileFrom, FileStore, Leftover, Options, Start};
+use sqlite_disk::Disk;
 use std::fs;
 use std::hash::{BuildHasher, RandomState};
-use std::io::ErrorKind;
 
 /// The pages of a file that the store has room for in memory. It takes this memory at once.
 #[derive(Clone, Copy, Debug, PartialEq, Eq)]
@@ -64,27 +65,9 @@ fn options(rt: &HostRuntime, pages: u64) -> Result<Options, Refusal>
     Ok(options)
 }
 
-/// The file at a path and its log, created if they don't exist.
-fn files_at<S: Start>(rt: &HostRuntime, path: &str, start: S) -> Result<Files<FileFrom<S>>, Refusal>
-    ensures log { IfOk result (λ files. IsTrue (file_is_usable S.Start files.log)) }
-    ensures db { IfOk result (λ files. IsTrue (file_is_usable S.Start files.db)) }
-    ensures fresh { IfOk result (λ files. IsFresh true files.log × IsFresh false files.db) }
-    ensures named { IfErr result (λ refusal.
-        (refusal ≡ Refusal.NoMemory) ⊎ (refusal ≡ Refusal.File)) }
-{
-    match sqlite_std_file::open(rt, path, start) {
-        Ok(files) => Ok(files),
-        Err(OpenError::OutOfMemory) => Err(Refusal::NoMemory),
-        Err(OpenError::Io(error)) if error.kind() == ErrorKind::OutOfMemory => {
-            Err(Refusal::NoMemory)
-        }
-        Err(OpenError::Io(_) | OpenError::Busy | OpenError::HotJournal) => Err(Refusal::File),
-    }
-}
-
 /// The row of the table of refusals for a database that couldn't be opened.
 fn refusal_of(error: &Error) -> Refusal
-    ensures { (result ≡ Refusal.NoMemory) ⊎ (result ≡ Refusal.File) }
+    ensures { IsFileRefusal result }
 {
     match error {
         Error::SqliteFailure(ErrorCode::OutOfMemory) => Refusal::NoMemory,
@@ -92,32 +75,41 @@ fn refusal_of(error: &Error) -> Refusal
     }
 }
 
-/// Opens the database in the file at `path`, or creates it; its log is copied into it first.
-/// `start` names what the two files hold once they are opened and synced, and how a stop is read;
-/// no code can read it. It reads and checks the whole file, and takes memory for the pages of
-/// `room`.
+/// Opens the database in the file at `path`, or creates it; its log is copied into it first. The
+/// opener's start names what the two files hold once they are opened and synced, and how a stop is
+/// read; no code can read it. It reads and checks the whole file, and takes memory for the pages of
+/// `room`. What needs no file comes first. A refusal returns what the store had of the files, if
+/// they were opened.
 ///
 /// `File`: the file can't be opened or created, isn't a database, or is in use; or the system gives
 /// no random number. `NoMemory`: memory was refused.
-pub fn connect<S: Start>(
+pub(crate) fn connect<S: Start>(
     rt: &HostRuntime,
     path: &str,
     room: CacheSize,
-    start: S,
-) -> Result<Connection<FileStore<FileFrom<S>>>, Refusal>
+    opener: &mut Opener<S>,
+) -> Result<Connection<FileStore<FileFrom<S>>>, (Refusal, Option<Leftover<FileFrom<S>>>)>
+    requires fresh { opener.old.has_opened ≡ false }
     ensures outside { IfOk result (λ conn. conn.in_transaction ≡ false) }
     ensures opened { IfOk result (λ conn. HasCleanDisk (file_state conn) → IsOpened conn) }
     ensures found { IfOk result (λ conn. HasCleanDisk (file_state conn)
         → FindsIn (image_at S.Start) (file_state conn)) }
+    ensures once { OnOk result (opener.new.has_opened ≡ true) }
 
-    ensures named { IfErr result (λ refusal.
-        (refusal ≡ Refusal.NoMemory) ⊎ (refusal ≡ Refusal.File)) }
+    ensures left { IfErr result (λ e.
+        IsUnconnected ⟦<FileFrom<S> as Disk>⟧ S.Start opener.new.has_opened e.1) }
+    ensures named { IfErr result (λ e. IsFileRefusal e.0) }
 {
-    let pages = pages(room, length_at(rt, path));
-    let files = files_at(rt, path, start)?;
-    let options = options(rt, pages)?;
+    let options = match options(rt, pages(room, length_at(rt, path))) {
+        Ok(options) => options,
+        Err(refusal) => return Err((refusal, None)),
+    };
+    let files = match opener.open(rt, path) {
+        Ok(files) => files,
+        Err(refusal) => return Err((refusal, None)),
+    };
     match Connection::open_files(rt.alloc(), files, options) {
         Ok(conn) => Ok(conn),
-        Err((error, _)) => Err(refusal_of(&error)),
+        Err((error, left)) => Err((refusal_of(&error), Some(left))),
     }
 }

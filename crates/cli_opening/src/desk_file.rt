@@ -7,9 +7,11 @@ ghost use Rattle.cli_opening.specs.Faults.{IsFindingRefusal, IsMakingRefusal, Is
 ghost use Rattle.cli_opening.specs.Opening.{FindsOrMakes, IsFoundOrMade, IsMade, IsOpened, Makes, Opens};
 ghost use Rattle.cli_opening.specs.Refusing.{IsNotFound, IsNotMade, IsNotOpened};
 ghost use Rattle.cli_opening.specs.Refusing.{RefusesDesk, RefusesFinding, RefusesMaking};
+ghost use Rattle.cli_opening.specs.Refusing.{RefusesOwned};
 
 use crate::connecting::{CacheSize, connect};
 use crate::left::Left;
+use crate::opener::Opener;
 use base::{Guid, Refusal};
 use sqlite::{Alter, Connection, FileFrom, FileStore, Start};
 use sqlite_disk::Disk;
@@ -84,12 +86,13 @@ fn make_there<S: Start>(
         IsNotMade ⟦<FileFrom<S> as Disk>⟧ S.Start owner.now e.0 e.1.rest) }
     ensures named { IfErr result (λ e. IsMakingRefusal e.0) }
 {
-    match connect(rt, path, CacheSize::AsItIs, start) {
+    let mut opener = Opener::new(start);
+    match connect(rt, path, CacheSize::AsItIs, &mut opener) {
         Ok(conn) => match make_over(rt.alloc(), conn, owner) {
             Ok(desk) => Ok(desk),
             Err((refusal, unmade)) => Err((refusal, Left::unclosed(unmade))),
         },
-        Err(refusal) => Err((refusal, Left::nothing())),
+        Err((refusal, left)) => Err((refusal, Left::unconnected(opener, left))),
     }
 }
 
@@ -112,7 +115,7 @@ pub fn make<S: Start>(
 {
     match make_private(rt, path) {
         Ok(()) => make_there(rt, path, start, owner),
-        Err(refusal) => Err((refusal, Left::nothing())),
+        Err(refusal) => Err((refusal, Left::unused(start))),
     }
 }
 
@@ -135,6 +138,27 @@ fn open_over<S: Alter + Drop>(
     }
 }
 
+/// Opens the desk of a connection, if it has this owner. A refusal returns the connection.
+fn open_owned<S: Alter + Drop>(
+    alloc: Global,
+    conn: Connection<S>,
+    owner: &Guid,
+) -> Result<Desk<S>, (Refusal, Connection<S>)>
+    requires { conn.in_transaction ≡ false }
+    ensures opened { IfOk result (Opens S.Store conn) }
+    ensures own { IfOk result (λ desk. desk.owner ≡ owner.now) }
+    ensures refused { IfErr result (λ e. RefusesOwned S.Store conn owner.now e.0 e.1) }
+    ensures outside { IfErr result (λ e. e.1.in_transaction ≡ false) }
+    ensures named { IfErr result (λ e. IsFindingRefusal e.0) }
+{
+    found_is_shown(&conn);
+    stop_leaves_what_is_shown(&conn);
+    match Desk::open_for(alloc, conn, owner) {
+        Ok(desk) => Ok(desk),
+        Err((refusal, unopened)) => Err((refusal, unopened)),
+    }
+}
+
 /// Opens an existing file, and the desk in it.
 fn open_there<S: Start>(
     rt: &HostRuntime,
@@ -147,12 +171,13 @@ fn open_there<S: Start>(
         IsNotOpened ⟦<FileFrom<S> as Disk>⟧ S.Start e.0 e.1.rest) }
     ensures named { IfErr result (λ e. IsOpeningRefusal e.0) }
 {
-    match connect(rt, path, room, start) {
+    let mut opener = Opener::new(start);
+    match connect(rt, path, room, &mut opener) {
         Ok(conn) => match open_over(rt.alloc(), conn) {
             Ok(desk) => Ok(desk),
             Err((refusal, refused)) => Err((refusal, Left::unclosed(refused))),
         },
-        Err(refusal) => Err((refusal, Left::nothing())),
+        Err((refusal, left)) => Err((refusal, Left::unconnected(opener, left))),
     }
 }
 
@@ -175,8 +200,8 @@ pub fn open<S: Start>(
 {
     match is_there(rt, path) {
         Ok(true) => open_there(rt, path, start, room),
-        Ok(false) => Err((Refusal::File, Left::nothing())),
-        Err(refusal) => Err((refusal, Left::nothing())),
+        Ok(false) => Err((Refusal::File, Left::unused(start))),
+        Err(refusal) => Err((refusal, Left::unused(start))),
     }
 }
 
@@ -193,8 +218,8 @@ fn is_bare(schema: &Schema) -> bool
     schema.views.is_empty()
 }
 
-/// The desk of a connection; one without calls is made where there is no table at all. A refusal
-/// returns the connection. Whether there is one is asked before the opening and after it: no clause
+/// The desk of this owner that a connection has; one without calls is made where there is no table
+/// at all. A refusal returns the connection. Whether there is one is asked before the opening and after it: no clause
 /// of `Desk::open` says that the tables of a refused store stay.
 fn found_or_made<S: Alter + Drop>(
     alloc: Global,
@@ -207,7 +232,7 @@ fn found_or_made<S: Alter + Drop>(
     ensures named { IfErr result (λ e. IsFindingRefusal e.0) }
 {
     let was_bare = is_bare(conn.schema());
-    match open_over(alloc, conn) {
+    match open_owned(alloc, conn, owner) {
         Ok(desk) => Ok(desk),
         Err((refusal, conn)) => {
             if refusal == Refusal::NotADesk && was_bare && is_bare(conn.schema()) {
@@ -233,21 +258,23 @@ fn found_there<S: Start>(
         IsNotFound ⟦<FileFrom<S> as Disk>⟧ S.Start owner.now e.0 e.1.rest) }
     ensures named { IfErr result (λ e. IsFindingRefusal e.0) }
 {
-    match connect(rt, path, CacheSize::ToGrow, start) {
+    let mut opener = Opener::new(start);
+    match connect(rt, path, CacheSize::ToGrow, &mut opener) {
         Ok(conn) => match found_or_made(rt.alloc(), conn, owner) {
             Ok(desk) => Ok(desk),
             Err((refusal, unfound)) => Err((refusal, Left::unclosed(unfound))),
         },
-        Err(refusal) => Err((refusal, Left::nothing())),
+        Err((refusal, left)) => Err((refusal, Left::unconnected(opener, left))),
     }
 }
 
-/// Opens a file, which is created if it doesn't exist, for its user alone, and the desk in it. In a
-/// file without tables, indexes and views it makes one with this owner and without calls. A refusal
-/// returns what is left of the file.
+/// Opens a file, which is created if it doesn't exist, for its user alone, and the desk in it, if it
+/// has this owner; one of version 1 then becomes one of version 2. In a file without tables, indexes
+/// and views it makes one with this owner and without calls. A refusal returns what is left of the
+/// file.
 ///
 /// `File`: as for `connect`. `NotADesk`, `Version`: the file has tables or views, and no desk that
-/// this program knows. `NoMemory`: memory was refused. `Store`: the store failed.
+/// this program knows. `Owner`: the desk has another; it was only read. `NoMemory`: memory was refused. `Store`: the store failed.
 pub fn open_or_make<S: Start>(
     rt: &HostRuntime,
     path: &str,
@@ -261,6 +288,6 @@ pub fn open_or_make<S: Start>(
 {
     match make_private(rt, path) {
         Ok(()) => found_there(rt, path, start, owner),
-        Err(refusal) => Err((refusal, Left::nothing())),
+        Err(refusal) => Err((refusal, Left::unused(start))),
     }
 }

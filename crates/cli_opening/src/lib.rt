@@ -7,10 +7,11 @@ mod desk_file;
 mod ended;
 mod laws;
 mod left;
+mod opener;
 mod working;
 
 pub use closing::close_after;
-pub use connecting::{CacheSize, connect};
+pub use connecting::CacheSize;
 pub use desk_file::{FileDesk, make, open, open_or_make};
 pub use ended::Ended;
 pub use laws::{a_failed_close_is_a_device, closed_files_hold_the_desk};

@@ -100,7 +100,7 @@ module _ (size : ℕ) (old new : Image) (named : NamesSize old (stored_size size
       let two : reserved size ≡ 0 = grind (arith, took_none) in
       omega (arith, same_stored, one, two)
 
-  still_database : HoldsDatabase new db
+  pub still_database : HoldsDatabase new db
   still_database =
       let it = held.2 in (
         held.0,

@@ -13,10 +13,12 @@ mod PersonLemmas
 mod QuestionLemmas
 pub mod ReopeningLemmas
 pub mod LivingLemmas
-mod FilesLemmas
+pub mod FilesLemmas
 mod RestartLemmas
 mod StreamLemmas
 mod ImpactLemmas
+mod OwnerLemmas
+mod OwnedLemmas
 mod RefusalLemmas
 mod ReadingLemmas
 mod MemoryLemmas

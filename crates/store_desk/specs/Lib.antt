@@ -7,6 +7,7 @@ pub mod Remains
 pub mod Rows
 pub mod Founding
 pub mod Steps
+pub mod Owners
 pub mod Acts
 pub mod Closed
 pub mod Exports

@@ -29,10 +29,10 @@ ghost use Rattle.store_desk.specs.Steps.{Brings, FindsKnown, FindsNone, FindsOth
 
 use crate::acting::{result_of, run};
 use crate::founding::{found_at_once, names_are_free};
-use crate::opening::{find_or_migrate, found_is_shown};
+use crate::owned::open_expected;
 use crate::questions::{ListsFor, RowsFor};
 use base::{Guid, Refusal};
-use desk_history::{Answer, keys_stand_once, lives_keep_what_was_answered};
+use desk_history::Answer;
 use desk_rules::{CallRef, ListView, View};
 use desk_types::{Caller, Command, Facts, Key, Reply, call_is_formed};
 use sbat::Stamp;
@@ -122,7 +122,7 @@ impl<S: Alter + Drop> Desk<S> {
     /// other than 1 and 2. `NoMemory`: memory was refused. After any of these nothing was
     /// committed. `Store`: the store failed; it committed nothing, or, for a desk of version 1, all
     /// of version 2.
-    pub fn open(alloc: Global, mut conn: Connection<S>) -> Result<Desk<S>, (Refusal, Connection<S>)>
+    pub fn open(alloc: Global, conn: Connection<S>) -> Result<Desk<S>, (Refusal, Connection<S>)>
         requires outside { conn.in_transaction ≡ false }
         ensures ok { IfOk result (λ desk. HasCleanDisk (state S.Store desk.conn)
             → (owner : List ℕ) (cs : History) → IsHistory cs
@@ -165,22 +165,9 @@ impl<S: Alter + Drop> Desk<S> {
         ensures outside { IfErr result (λ e. e.1.in_transaction ≡ false) }
         ensures named { IfErr result (λ e. (e.0 ≡ Refusal.Version) ⊎ IsReadRefusal e.0) }
     {
-        found_is_shown(&conn);
-        stop_leaves_what_is_shown(&conn);
-        lives_keep_what_was_answered();
-        match find_or_migrate(&mut conn) {
-            Ok(own) => {
-                stop_leaves_what_is_shown(&conn);
-                keys_stand_once();
-                Ok(Desk {
-                    alloc,
-                    conn,
-                    owner: own.owner,
-                    remembered: Remembered::of_stamp(own.stamp),
-                    needs_reopening: false,
-                })
-            }
-            Err(refusal) => Err((refusal, conn)),
+        match open_expected(alloc, conn, None) {
+            Ok(desk) => Ok(desk),
+            Err((refusal, refused)) => Err((refusal, refused)),
         }
     }
 

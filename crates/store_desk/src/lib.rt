@@ -15,6 +15,7 @@ mod laws;
 mod living;
 mod opening;
 mod own_lines;
+mod owned;
 mod questions;
 mod reading;
 mod remains;

@@ -8,11 +8,12 @@ ghost use Rattle.desk_history.specs.Calls.{History};
 ghost use Rattle.store_sql.specs.States.{CommitsNothing, Spares};
 ghost use Rattle.store_schema.specs.rows.Histories.{HoldsFirst, HoldsHistory, ShowsFirst, ShowsHistory};
 ghost use Rattle.store_migration.specs.Migrations.{KeepsShown};
+ghost use Rattle.store_desk.specs.Owners.{FindsAnother, IsAnother, IsAsked, IsExpected};
 ghost use Rattle.store_desk.specs.Steps.{Brings, FindsKnown, FindsNone, FindsOther, IsOwnOf};
 ghost use Rattle.store_desk.specs.Steps.{IsReadRefusal, OnlyLooks, RefusesColumns, RefusesText};
 ghost use Rattle.store_desk.specs.Steps.{TellsInside, TellsOutside};
 
-use base::Refusal;
+use base::{Guid, Refusal};
 use sqlite::{Alter, Connection, Error, Transaction};
 use store_migration::migrate;
 use store_reads::{OwnRow, ReadFault, own_row};
@@ -32,6 +33,17 @@ fn is_version(version: i64, known: u32) -> bool
     ensures other { result ≡ false → version ≢ pos known }
 {
     version == i64::from(known)
+}
+
+/// Whether an owner is expected, and this is another.
+fn is_another(owner: &Guid, expected: Option<Guid>) -> bool
+    ensures another { IsTrue result → IsAnother expected owner.now }
+    ensures expected { result ≡ false → IsExpected expected owner.now }
+{
+    match expected {
+        Some(expected) => *owner != expected,
+        None => false,
+    }
 }
 
 /// Whether the store's tables lack a table or a column that a text names.
@@ -129,10 +141,13 @@ fn read_table<S: Alter>(conn: &mut Connection<S>) -> Result<OwnRow, Refusal>
 /// Finds a desk of version 2, or migrates one of version 1, by one commit, the last call. Returns
 /// what its row said before.
 ///
-/// `NotADesk`: no row reads as a desk's, or a name that version 2 adds is taken. `Version`: the
-/// desk is of another version. `NoMemory`: nothing was committed. `Store`: nothing was, or
-/// everything.
-pub(crate) fn find_or_migrate<S: Alter>(conn: &mut Connection<S>) -> Result<OwnRow, Refusal>
+/// `NotADesk`: no row reads as a desk's, or a name that version 2 adds is taken. `Owner`: the row
+/// has another owner than the one that is expected, whatever its version; nothing was committed.
+/// `Version`: the desk is of another version. `NoMemory`: nothing was committed. `Store`: nothing was, or everything.
+pub(crate) fn find_or_migrate<S: Alter>(
+    conn: &mut Connection<S>,
+    expected: Option<Guid>,
+) -> Result<OwnRow, Refusal>
     requires outside { conn.old.in_transaction ≡ false }
     ensures outside { conn.new.in_transaction ≡ false }
     ensures second { HasCleanDisk (state S.Store conn.new) → (owner : List ℕ) (cs : History)
@@ -151,12 +166,16 @@ pub(crate) fn find_or_migrate<S: Alter>(conn: &mut Connection<S>) -> Result<OwnR
         e ≡ Refusal.Version → FindsOther S.Store conn.old) }
     ensures unread { HasCleanDisk (state S.Store conn.new) → IfErr result (λ e.
         e ≡ Refusal.NotADesk → FindsNone S.Store conn.old) }
+    ensures expected { IfOk result (λ own. IsExpected expected own.owner) }
+    ensures another { HasCleanDisk (state S.Store conn.new) → IfErr result (λ e.
+        e ≡ Refusal.Owner → FindsAnother S.Store conn.old expected) }
     ensures open { HasCleanDisk (state S.Store conn.new)
         → OnOk result (IsTrue (state S.Store conn.old).is_open) }
     ensures looked { HasCleanDisk (state S.Store conn.new) → IfErr result (λ e.
         (e ≡ Refusal.NotADesk) ⊎ (e ≡ Refusal.Version)
         → IsTrue (state S.Store conn.old).is_open) }
-    ensures named { IfErr result (λ e. (e ≡ Refusal.Version) ⊎ IsReadRefusal e) }
+    ensures named { IfErr result (λ e.
+        IsAsked expected e ⊎ ((e ≡ Refusal.Version) ⊎ IsReadRefusal e)) }
 
     ensures kept { HasCleanDisk (state S.Store conn.new) → IfErr result (λ e.
         e ≢ Refusal.Store → KeepsShown (state S.Store conn.old) (state S.Store conn.new)) }
@@ -168,6 +187,9 @@ pub(crate) fn find_or_migrate<S: Alter>(conn: &mut Connection<S>) -> Result<OwnR
         Ok(own) => own,
         Err(refusal) => return Err(refusal),
     };
+    if is_another(&own.owner, expected) {
+        return Err(Refusal::Owner);
+    }
     if is_version(own.version, VERSION) {
         return Ok(own);
     }

@@ -8,6 +8,6 @@ mod running;
 
 pub use living::{openings_recover_runs, refused_runs_make_lives, runs_make_lives};
 pub use restarting::restart_after_run;
-pub use running::{follow, has_owner};
+pub use running::follow;
 pub use store_audit::Followed;
 pub use store_minutes::{AuditFault, LineWatch};

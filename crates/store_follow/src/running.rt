@@ -1,5 +1,5 @@
 //! A run over minutes: the desk's own are compared, and the others followed.
-ghost use Rattle.std.specs.Prelude.{◌≡◌, ◌≢◌, ℕ, List, [], IfErr, IfOk, OnOk, Some, false, length, true};
+ghost use Rattle.std.specs.Prelude.{◌≡◌, ℕ, List, [], IfErr, IfOk, OnOk, Some, length};
 ghost use Rattle.sqlite.specs.Held.{state};
 ghost use Rattle.sqlite.specs.State.{HasCleanDisk};
 ghost use Rattle.store_sql.specs.States.{Spares};
@@ -9,7 +9,7 @@ ghost use Rattle.store_minutes.specs.Starts.{HasFollowedAfter, IsWrongAfter, Sta
 ghost use Rattle.store_minutes.specs.Comparing.{Begins, HasAll};
 ghost use Rattle.store_follow.specs.Runs.{HasRun, IsWrongLine, LeavesRun};
 
-use base::{Guid, Refusal};
+use base::Refusal;
 use sqlite::{Alter, Connection};
 use std::alloc::Global;
 use std::io::BufRead;
@@ -17,14 +17,6 @@ use store_audit::{Followed, follow_from_first};
 use store_desk::Desk;
 use store_first_rules::{FirstDesk, Resumed};
 use store_minutes::{AuditFault, Compared, LineWatch, compare, follow_rest};
-
-/// Whether the desk has this owner.
-pub fn has_owner<S: Alter + Drop>(desk: &Desk<S>, owner: &Guid) -> bool
-    ensures same { result ≡ true → desk.now.owner ≡ owner.now }
-    ensures differ { result ≡ false → desk.now.owner ≢ owner.now }
-{
-    desk.owner() == *owner
-}
 
 /// The number of the desk's calls. Nothing changes.
 fn count_calls<S: Alter + Drop>(desk: &mut Desk<S>) -> Result<u64, Refusal>

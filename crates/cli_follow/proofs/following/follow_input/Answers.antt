@@ -1,7 +1,7 @@
 use Rattle.std.proofs.Common.{inl, inr, refl}
 use Rattle.base.specs.declared.refusal.Refusal.TheVariants as refusals
 use Rattle.cli_audit.proofs.AuditLemmas.{buffered}
-use Rattle.cli_follow.proofs.EndLemmas.{at_desk, follow_first, follow_named, unasked}
+use Rattle.cli_follow.proofs.EndLemmas.{at_desk, follow_first, follow_named, run_unowned}
 use Rattle.cli_follow.proofs.following.follow_input.Goals as goal
 
 -- memory for the reader was refused
@@ -11,8 +11,8 @@ returns-in-Err-clause-followed g c = inl (
   record {
     refusal = refusals.NoMemory;
     told = c.without_desk.ensures.ending;
-    named = inl (inl refl);
-    why = rw (c.without_desk.ensures.left, c.nothing.ensures) (inl refl);
+    named = inl (inl (inl refl));
+    why = rw (c.without_desk.ensures.left, c.unused.ensures) (inl refl, refl);
   },
   refl,
   refl,
@@ -43,32 +43,32 @@ returns-in-Err-clause-let_go g c = rw c.without_desk.ensures.work (λ lasting. c
 
 pub returns-in-Ok-open_or_make-clause-followed : goal.returns-in-Ok-open_or_make-clause-followed
 returns-in-Ok-open_or_make-clause-followed g c =
-    inr (at_desk c.args.owner.now _ _ _ _ c.follow_on_desk.new.watch c.follow_on_desk.result c.in-Ok-open_or_make.desk
+    inr (at_desk c.args.owner.now _ _ _ _ c.follow_and_close.new.watch c.follow_and_close.result c.in-Ok-open_or_make.desk
     (buffered g.R.Read.remaining c.in-Ok.reader c.args.reader c.in-Ok.ensures.inner c.in-Ok.ensures.empty c.in-Ok.ensures.capacity)
-    c.in-Ok-open_or_make.ensures.found c.follow_on_desk.ensures.followed)
+    c.in-Ok-open_or_make.ensures.found c.follow_and_close.ensures.ran)
 
 pub returns-in-Ok-open_or_make-clause-done : goal.returns-in-Ok-open_or_make-clause-done
-returns-in-Ok-open_or_make-clause-done g c = c.follow_on_desk.ensures.done
+returns-in-Ok-open_or_make-clause-done g c = c.follow_and_close.ensures.done
 
 pub returns-in-Ok-open_or_make-clause-flushed : goal.returns-in-Ok-open_or_make-clause-flushed
-returns-in-Ok-open_or_make-clause-flushed g c = c.follow_on_desk.ensures.flushed
+returns-in-Ok-open_or_make-clause-flushed g c = c.follow_and_close.ensures.flushed
 
 pub returns-in-Ok-open_or_make-clause-named : goal.returns-in-Ok-open_or_make-clause-named
 returns-in-Ok-open_or_make-clause-named g c =
-    follow_named c.args.owner.now _ _ _ c.follow_on_desk.new.watch c.follow_on_desk.result c.in-Ok-open_or_make.desk c.follow_on_desk.ensures.followed
+    follow_named _ _ _ c.follow_and_close.new.watch c.follow_and_close.result c.in-Ok-open_or_make.desk c.follow_and_close.ensures.ran
 
 pub returns-in-Ok-open_or_make-clause-first : goal.returns-in-Ok-open_or_make-clause-first
 returns-in-Ok-open_or_make-clause-first g c =
-    follow_first c.args.owner.now _ _ _ c.follow_on_desk.new.watch c.follow_on_desk.result c.in-Ok-open_or_make.desk c.follow_on_desk.ensures.followed _
+    follow_first _ _ _ c.follow_and_close.new.watch c.follow_and_close.result c.in-Ok-open_or_make.desk c.follow_and_close.ensures.ran _
 
 pub returns-in-Ok-open_or_make-clause-owner : goal.returns-in-Ok-open_or_make-clause-owner
-returns-in-Ok-open_or_make-clause-owner g c = unasked _ _ _ c.follow_on_desk.result.work c.follow_on_desk.ensures.owner
+returns-in-Ok-open_or_make-clause-owner g c = run_unowned _ _ _ _ c.follow_and_close.new.watch c.follow_and_close.result c.in-Ok-open_or_make.desk _ c.follow_and_close.ensures.ran
 
 pub returns-in-Ok-open_or_make-clause-closing : goal.returns-in-Ok-open_or_make-clause-closing
-returns-in-Ok-open_or_make-clause-closing g c = c.follow_on_desk.ensures.closing
+returns-in-Ok-open_or_make-clause-closing g c = c.follow_and_close.ensures.closing
 
 pub returns-in-Ok-open_or_make-clause-let_go : goal.returns-in-Ok-open_or_make-clause-let_go
-returns-in-Ok-open_or_make-clause-let_go g c = c.follow_on_desk.ensures.let_go
+returns-in-Ok-open_or_make-clause-let_go g c = c.follow_and_close.ensures.let_go
 
 -- none was
 
@@ -91,7 +91,7 @@ pub returns-clause-flushed : goal.returns-clause-flushed
 returns-clause-flushed g c = rw c.without_desk-in-Err-open_or_make.ensures.work tt
 
 pub returns-clause-named : goal.returns-clause-named
-returns-clause-named g c = rw c.without_desk-in-Err-open_or_make.ensures.work (inl (refl, inl c.in-Err-open_or_make.ensures.named))
+returns-clause-named g c = rw c.without_desk-in-Err-open_or_make.ensures.work (inl (refl, c.in-Err-open_or_make.ensures.named))
 
 pub returns-clause-first : goal.returns-clause-first
 returns-clause-first g c = rw c.without_desk-in-Err-open_or_make.ensures.work (λ finding. (c.without_desk-in-Err-open_or_make.ensures.closing, refl, refl))

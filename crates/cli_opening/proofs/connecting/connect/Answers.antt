@@ -1,20 +1,14 @@
-use Rattle.std.proofs.Common.{ℕ, Bool, cond, List, ap₂, subst}
-use Rattle.sqlite_disk.specs.Events.{Event, replay}
-use Rattle.sqlite_wal.specs.Recovery.{Image}
+use Rattle.std.proofs.Common.{subst}
 use Rattle.sqlite.specs.Files.{file_state}
 use Rattle.sqlite.specs.Start.{FindsIn}
+use Rattle.cli_opening.proofs.UnopenedLemmas.{of_unopened}
 use Rattle.cli_opening.proofs.connecting.connect.Goals as goal
 
-abbrev image : List ℕ → List ℕ → Image
-image log db = record { log = log; db = db }
+-- the opener's files hold what they held at first
+pub returns-in-Ok-open_files-clause-found : goal.returns-in-Ok-open_files-clause-found
+returns-in-Ok-open_files-clause-found g c = λ clean.
+    let found = c.in-Ok-open_files.ensures.found clean in
+    subst (λ i. FindsIn i (file_state c.in-Ok-open_files.conn)) c.in-Ok-open.ensures.seen (record { holds = found.holds; reads = found.reads })
 
-abbrev seen : List ℕ → List ℕ → Bool → List Event → List ℕ
-seen log db is_log history = (replay (cond is_log log db) history).seen
-
--- Files that nobody has touched since they were opened hold what they began with.
-pub returns-in-Ok-clause-found : goal.returns-in-Ok-clause-found
-returns-in-Ok-clause-found g c = λ clean.
-    let (log, db) = c.in_ok-files.ensures.fresh in
-    let found = c.in-Ok.ensures.found clean in
-    let same = ap₂ image (ap₂ (seen g.S.Start.log g.S.Start.db) log.0 log.1) (ap₂ (seen g.S.Start.log g.S.Start.db) db.0 db.1) in
-    subst (λ i. FindsIn i (file_state c.in-Ok.conn)) same (record { holds = found.holds; reads = found.reads })
+pub returns-in-Err-open_files-clause-left : goal.returns-in-Err-open_files-clause-left
+returns-in-Err-open_files-clause-left g c = of_unopened _ g.S.Start c.in-Ok-open.files c.in-Ok-open.ensures.seen c.in-Ok-open.ensures.settled c.in-Err-open_files.left c.in-Err-open_files.ensures.unharmed

@@ -1,7 +1,8 @@
 use Rattle.std.proofs.Common.{inl}
 use Rattle.sqlite.specs.Files.{over_files}
 use Rattle.cli_opening.proofs.OpeningLemmas.{is_found, is_refused}
-use Rattle.cli_opening.specs.Refusing.{RefusesFinding}
+use Rattle.cli_opening.specs.Refusing.{MayRefuse, RefusesFinding}
+use Rattle.cli_opening.proofs.UnopenedLemmas.{unconnected_refused}
 use Rattle.cli_opening.proofs.desk_file.found_there.Goals as goal
 
 pub found_or_made-requires : goal.found_or_made-requires
@@ -21,13 +22,14 @@ returns-in-Err-found_or_made-clause-refused g c =
     let it = c.in-Err-found_or_made.ensures.refused in
     rw c.unclosed.ensures (is_refused g.S.Start c.in-Ok.conn
     (record { outside = c.in-Ok.ensures.outside; opened = c.in-Ok.ensures.opened; found = c.in-Ok.ensures.found })
-    (λ conn. RefusesFinding over_files conn c.args.owner.now c.in-Err-found_or_made.refusal c.in-Err-found_or_made.unfound) c.in-Err-found_or_made.refusal
-    c.in-Err-found_or_made.unfound it it.known it.left it.clean)
+    (λ conn. RefusesFinding over_files conn c.args.owner.now c.in-Err-found_or_made.refusal c.in-Err-found_or_made.unfound)
+    (λ earlier. MayRefuse c.args.owner.now earlier c.in-Err-found_or_made.refusal) c.in-Err-found_or_made.unfound it it.known it.left it.clean)
 
 -- there was no connection
 
 pub returns-in-Err-clause-refused : goal.returns-in-Err-clause-refused
-returns-in-Err-clause-refused g c = rw c.nothing.ensures c.in-Err.ensures.named
+returns-in-Err-clause-refused g c =
+    rw c.unconnected.ensures (unconnected_refused _ g.S.Start _ c.in-Err.refusal c.connect.new.opener.has_opened c.in-Err.left c.in-Err.ensures.named c.in-Err.ensures.left)
 
 pub returns-in-Err-clause-named : goal.returns-in-Err-clause-named
-returns-in-Err-clause-named g c = inl c.in-Err.ensures.named
+returns-in-Err-clause-named g c = inl (inl c.in-Err.ensures.named)

@@ -15,7 +15,7 @@ returns-in-Ok-true-clause-named g c = c.open_there.ensures.named
 -- there is none, or that can't be told
 
 pub returns-in-Ok-false-clause-refused : goal.returns-in-Ok-false-clause-refused
-returns-in-Ok-false-clause-refused g c = rw c.nothing.ensures (inr refl)
+returns-in-Ok-false-clause-refused g c = rw c.unused.ensures (inr refl, refl)
 
 pub returns-in-Err-clause-refused : goal.returns-in-Err-clause-refused
-returns-in-Err-clause-refused g c = rw c.nothing-in-Err.ensures c.in-Err.ensures
+returns-in-Err-clause-refused g c = rw c.unused-in-Err.ensures (c.in-Err.ensures, refl)

@@ -8,6 +8,7 @@ use Rattle.sqlite.specs.Schema.{Schema}
 use Rattle.store_schema.specs.Names.{takes_an_added_name}
 use Rattle.store_desk.specs.Steps.{AreShownAs, Brings, ReadsVersion}
 use Rattle.store_desk.proofs.OpeningLemmas.{own_of, read_as, version_of}
+use Rattle.store_desk.proofs.OwnerLemmas.{asked_of, never_owner}
 use Rattle.store_desk.proofs.ReopeningLemmas.{never_version}
 use Rattle.store_desk.proofs.VersionLemmas.{brought_left, first_version, second_version}
 use Rattle.store_desk.proofs.opening.find_or_migrate.Goals as goal
@@ -33,6 +34,33 @@ pub returns-in-Err-clause-survives : goal.returns-in-Err-clause-survives
 returns-in-Err-clause-survives g c =
     let old = state g.S.Store c.args.conn.now in
     leaves_more (Brings old) old (state g.S.Store c.read_table.new.conn) c.in-Err.ensures.looks.spares
+
+pub returns-in-Err-clause-another : goal.returns-in-Err-clause-another
+returns-in-Err-clause-another g c clean is = absurd (never_owner c.in-Err.refusal is c.in-Err.ensures.named)
+
+pub returns-in-Err-clause-named : goal.returns-in-Err-clause-named
+returns-in-Err-clause-named g c = inr (inr c.in-Err.ensures.named)
+
+-- ---- another owner
+
+pub returns-then-is_another-clause-second : goal.returns-then-is_another-clause-second
+returns-then-is_another-clause-second g c clean owner cs shows = c.in-Ok.ensures.looks.shown clean desk_layout (rows_of owner cs) shows
+
+pub returns-then-is_another-clause-another : goal.returns-then-is_another-clause-another
+returns-then-is_another-clause-another g c clean is =
+    let told = c.in-Ok.ensures.told clean in
+    (told.told.is_open, told.named, (c.in-Ok.own, told.told.read, c.is_another.ensures.another c.if-is_another.true))
+
+pub returns-then-is_another-clause-named : goal.returns-then-is_another-clause-named
+returns-then-is_another-clause-named g c = inl (asked_of c.args.expected c.in-Ok.own.owner (c.is_another.ensures.another c.if-is_another.true))
+
+pub returns-then-is_another-clause-looked : goal.returns-then-is_another-clause-looked
+returns-then-is_another-clause-looked g c clean is = (c.in-Ok.ensures.told clean).told.is_open
+
+pub returns-then-is_another-clause-survives : goal.returns-then-is_another-clause-survives
+returns-then-is_another-clause-survives g c =
+    let old = state g.S.Store c.args.conn.now in
+    leaves_more (Brings old) old (state g.S.Store c.read_table.new.conn) c.in-Ok.ensures.looks.spares
 
 -- ---- version 2
 
@@ -145,6 +173,12 @@ returns-in-Err-migrate-clause-second g c clean owner cs shows =
 
 pub returns-in-Err-migrate-clause-other : goal.returns-in-Err-migrate-clause-other
 returns-in-Err-migrate-clause-other g c clean is = absurd (never_version c.in-Err-migrate.refusal is c.in-Err-migrate.ensures.named)
+
+pub returns-in-Err-migrate-clause-another : goal.returns-in-Err-migrate-clause-another
+returns-in-Err-migrate-clause-another g c clean is = absurd (never_owner c.in-Err-migrate.refusal is c.in-Err-migrate.ensures.named)
+
+pub returns-in-Err-migrate-clause-named : goal.returns-in-Err-migrate-clause-named
+returns-in-Err-migrate-clause-named g c = inr (inr c.in-Err-migrate.ensures.named)
 
 pub returns-in-Err-migrate-clause-unread : goal.returns-in-Err-migrate-clause-unread
 returns-in-Err-migrate-clause-unread g c clean is =
