@@ -1,6 +1,6 @@
 //! A substitute for a desk whose store fails.
 ghost use Rattle.std.proofs.Common.{inl};
-ghost use Rattle.std.specs.Prelude.{◌≡◌, ◌⊎◌, ⊤, Some, false, length, true};
+ghost use Rattle.std.specs.Prelude.{◌≡◌, ◌⊎◌, ⊤, if◌then◌else◌, Some, false, length, true};
 ghost use Rattle.desk_exports.specs.Desks.{person_with};
 
 use base::{Digest, Refusal};
