@@ -26,6 +26,8 @@ use Rattle.cli_opening.specs.Leaving.{rest_of}
 use Rattle.cli_opening.specs.Opening.{HoldsDesk, HoldsLivesIn, HoldsTables}
 use Rattle.cli_opening.specs.Refusing.{IsLeftRefused}
 use Rattle.cli_opening.specs.Unopened.{IsOfUnopened, IsUnconnected, StopLeaves}
+use Rattle.cli_opening.specs.declared.left.Rest.{Rest}
+use Rattle.cli_opening.specs.declared.left.Rest.TheVariants.{Broken, Closed, Nothing, Unclosed, Unopened}
 
 module _ {D S : Type 0} (g : Ghosts D) (first : start.Ghosts S) where
   keeps_desk : (rest : Leftover D g) → ((db : Trees) → HoldsDatabase (image_at first) db → StopLeaves rest (λ image. HoldsDatabase image db) (λ found. found ≡ db))
@@ -82,3 +84,12 @@ pub unconnected_refused : {D S : Type 0} (g : Ghosts D) (first : start.Ghosts S)
     → IsLeftRefused g first told refusal (rest_of was_opened left)
 unconnected_refused g first told refusal was_opened None named never = (named, never)
 unconnected_refused g first told refusal was_opened (Some left) named of = (named, of)
+
+-- what holds of no connection holds whatever is to hold of one
+pub still_refused : {D S : Type 0} (g : Ghosts D) (first : start.Ghosts S) (told : Held (FileStore D g) → Type 0) (refusal : Refusal) (rest : Rest D g)
+    → IsLeftRefused g first (λ _. ⊥) refusal rest → IsLeftRefused g first told refusal rest
+still_refused g first told refusal (Nothing was_opened) h = h
+still_refused g first told refusal (Unopened left) h = h
+still_refused g first told refusal (Unclosed last) h = absurd h
+still_refused g first told refusal (Broken store) h = h
+still_refused g first told refusal (Closed files) h = h

@@ -2,12 +2,14 @@
 ghost use Rattle.std.specs.Prelude.{◌≡◌, IfErr, IfOk, OnOk, false, true};
 ghost use Rattle.cli_output.specs.Faults.{IsFileRefusal};
 ghost use Rattle.cli_opening.specs.Pages.{pages_for};
+ghost use Rattle.cli_opening.specs.Refusing.{IsLeftRefused};
 ghost use Rattle.cli_opening.specs.Unopened.{IsUnconnected};
 ghost use Rattle.sqlite.specs.Files.{IsOpened, file_state};
 ghost use Rattle.sqlite.specs.Start.{FindsIn};
 ghost use Rattle.sqlite.specs.State.{HasCleanDisk};
 ghost use Rattle.sqlite_wal.specs.Files.{image_at};
 
+use crate::left::Left;
 use crate::opener::Opener;
 use base::Refusal;
 use sqlite::{Connection, Error, ErrorCode, FileFrom, FileStore, Leftover, Options, Start};
@@ -83,7 +85,7 @@ fn refusal_of(error: &Error) -> Refusal
 ///
 /// `File`: the file can't be opened or created, isn't a database, or is in use; or the system gives
 /// no random number. `NoMemory`: memory was refused.
-pub(crate) fn connect<S: Start>(
+fn connect<S: Start>(
     rt: &HostRuntime,
     path: &str,
     room: CacheSize,
@@ -112,4 +114,28 @@ pub(crate) fn connect<S: Start>(
         Ok(conn) => Ok(conn),
         Err((error, left)) => Err((refusal_of(&error), Some(left))),
     }
+}
+
+/// Opens the database in the file at `path`, as `connect` does, with an opener of its own. A
+/// refusal returns what is left of the files.
+pub(crate) fn connected<S: Start>(
+    rt: &HostRuntime,
+    path: &str,
+    room: CacheSize,
+    start: S,
+) -> Result<Connection<FileStore<FileFrom<S>>>, (Refusal, Left<FileFrom<S>>)>
+    ensures outside { IfOk result (λ conn. conn.in_transaction ≡ false) }
+    ensures opened { IfOk result (λ conn. HasCleanDisk (file_state conn) → IsOpened conn) }
+    ensures found { IfOk result (λ conn. HasCleanDisk (file_state conn)
+        → FindsIn (image_at S.Start) (file_state conn)) }
+    ensures left { IfErr result (λ e.
+        IsLeftRefused ⟦<FileFrom<S> as Disk>⟧ S.Start (λ _. ⊥) e.0 e.1.rest) }
+    ensures named { IfErr result (λ e. IsFileRefusal e.0) }
+{
+    let mut opener = Opener::new(start);
+    let conn = match connect(rt, path, room, &mut opener) {
+        Ok(conn) => conn,
+        Err((refusal, left)) => return Err((refusal, Left::unconnected(opener, left))),
+    };
+    Ok(conn)
 }

@@ -9,9 +9,8 @@ ghost use Rattle.cli_opening.specs.Refusing.{IsNotFound, IsNotMade, IsNotOpened}
 ghost use Rattle.cli_opening.specs.Refusing.{RefusesDesk, RefusesFinding, RefusesMaking};
 ghost use Rattle.cli_opening.specs.Refusing.{RefusesOwned};
 
-use crate::connecting::{CacheSize, connect};
+use crate::connecting::{CacheSize, connected};
 use crate::left::Left;
-use crate::opener::Opener;
 use base::{Guid, Refusal};
 use sqlite::{Alter, Connection, FileFrom, FileStore, Start};
 use sqlite_disk::Disk;
@@ -86,13 +85,12 @@ fn make_there<S: Start>(
         IsNotMade ⟦<FileFrom<S> as Disk>⟧ S.Start owner.now e.0 e.1.rest) }
     ensures named { IfErr result (λ e. IsMakingRefusal e.0) }
 {
-    let mut opener = Opener::new(start);
-    match connect(rt, path, CacheSize::AsItIs, &mut opener) {
+    match connected(rt, path, CacheSize::AsItIs, start) {
         Ok(conn) => match make_over(rt.alloc(), conn, owner) {
             Ok(desk) => Ok(desk),
             Err((refusal, unmade)) => Err((refusal, Left::unclosed(unmade))),
         },
-        Err((refusal, left)) => Err((refusal, Left::unconnected(opener, left))),
+        Err((refusal, left)) => Err((refusal, left)),
     }
 }
 
@@ -171,13 +169,12 @@ fn open_there<S: Start>(
         IsNotOpened ⟦<FileFrom<S> as Disk>⟧ S.Start e.0 e.1.rest) }
     ensures named { IfErr result (λ e. IsOpeningRefusal e.0) }
 {
-    let mut opener = Opener::new(start);
-    match connect(rt, path, room, &mut opener) {
+    match connected(rt, path, room, start) {
         Ok(conn) => match open_over(rt.alloc(), conn) {
             Ok(desk) => Ok(desk),
             Err((refusal, refused)) => Err((refusal, Left::unclosed(refused))),
         },
-        Err((refusal, left)) => Err((refusal, Left::unconnected(opener, left))),
+        Err((refusal, left)) => Err((refusal, left)),
     }
 }
 
@@ -219,8 +216,8 @@ fn is_bare(schema: &Schema) -> bool
 }
 
 /// The desk of this owner that a connection has; one without calls is made where there is no table
-/// at all. A refusal returns the connection. Whether there is one is asked before the opening and after it: no clause
-/// of `Desk::open` says that the tables of a refused store stay.
+/// at all. A refusal returns the connection. Whether there is one is asked before the opening and
+/// after it: no clause of `Desk::open` says that the tables of a refused store stay.
 fn found_or_made<S: Alter + Drop>(
     alloc: Global,
     conn: Connection<S>,
@@ -258,13 +255,12 @@ fn found_there<S: Start>(
         IsNotFound ⟦<FileFrom<S> as Disk>⟧ S.Start owner.now e.0 e.1.rest) }
     ensures named { IfErr result (λ e. IsFindingRefusal e.0) }
 {
-    let mut opener = Opener::new(start);
-    match connect(rt, path, CacheSize::ToGrow, &mut opener) {
+    match connected(rt, path, CacheSize::ToGrow, start) {
         Ok(conn) => match found_or_made(rt.alloc(), conn, owner) {
             Ok(desk) => Ok(desk),
             Err((refusal, unfound)) => Err((refusal, Left::unclosed(unfound))),
         },
-        Err((refusal, left)) => Err((refusal, Left::unconnected(opener, left))),
+        Err((refusal, left)) => Err((refusal, left)),
     }
 }
 

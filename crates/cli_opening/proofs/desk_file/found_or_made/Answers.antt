@@ -2,7 +2,7 @@ use Rattle.std.proofs.Common.{◌≡◌, ◌∙◌, rules, sym}
 use Rattle.sqlite.specs.Held.{state}
 use Rattle.base.specs.declared.refusal.Refusal.TheVariants as refusals
 use Rattle.store_schema.specs.Tables.{no_schema}
-use Rattle.cli_opening.proofs.CommitLemmas.{finding_refusal, found_made, found_opened, none_refused, unmade}
+use Rattle.cli_opening.proofs.CommitLemmas.{finding_refusal, found_made, found_opened, none_refused, unfound, unmade}
 use Rattle.cli_opening.proofs.desk_file.found_or_made.Goals as goal
 
 -- the desk was opened
@@ -35,3 +35,8 @@ pub returns-in-Err-make_over-clause-named : goal.returns-in-Err-make_over-clause
 returns-in-Err-make_over-clause-named g c =
     let bare : (state g.S.Store c.in-Err.conn).now.schema ≡ no_schema = sym c.schema-then-was_bare.ensures.value ∙ c.is_bare.ensures (search rules) in
     finding_refusal (state g.S.Store c.in-Err.conn).now.schema c.in-Err-make_over.again bare (λ exists. (c.in-Err-make_over.ensures.refused.taken exists).0) c.in-Err-make_over.ensures.named
+
+-- no desk was opened, and there is no room for one
+
+pub returns-else-eq-clause-refused : goal.returns-else-eq-clause-refused
+returns-else-eq-clause-refused g c = unfound g.S.Store c.args.conn c.in-Err.conn c.in-Err.refusal c.args.owner.now c.in-Err.ensures.refused

@@ -1,5 +1,5 @@
 use Rattle.std.proofs.Common.{inl}
-use Rattle.cli_opening.proofs.UnopenedLemmas.{unconnected_refused}
+use Rattle.cli_opening.proofs.UnopenedLemmas.{still_refused}
 use Rattle.cli_opening.proofs.desk_file.make_there.Goals as goal
 
 pub make_over-requires : goal.make_over-requires
@@ -26,8 +26,7 @@ returns-in-Err-make_over-clause-refused g c = rw c.unclosed.ensures (record {
 -- there was no connection
 
 pub returns-in-Err-clause-refused : goal.returns-in-Err-clause-refused
-returns-in-Err-clause-refused g c =
-    rw c.unconnected.ensures (unconnected_refused _ g.S.Start _ c.in-Err.refusal c.connect.new.opener.has_opened c.in-Err.left c.in-Err.ensures.named c.in-Err.ensures.left)
+returns-in-Err-clause-refused g c = still_refused _ g.S.Start _ c.in-Err.refusal c.in-Err.left.rest c.in-Err.ensures.left
 
 pub returns-in-Err-clause-named : goal.returns-in-Err-clause-named
 returns-in-Err-clause-named g c = inl c.in-Err.ensures.named

@@ -3,7 +3,7 @@ use Rattle.sqlite.specs.Files.{over_files}
 use Rattle.store_reads.specs.Failures.{IsFailure}
 use Rattle.cli_opening.proofs.OpeningLemmas.{is_opened, is_refused}
 use Rattle.cli_opening.specs.Refusing.{RefusesDesk}
-use Rattle.cli_opening.proofs.UnopenedLemmas.{unconnected_refused}
+use Rattle.cli_opening.proofs.UnopenedLemmas.{still_refused}
 use Rattle.cli_opening.proofs.desk_file.open_there.Goals as goal
 
 pub open_over-requires : goal.open_over-requires
@@ -29,8 +29,7 @@ returns-in-Err-open_over-clause-refused g c =
 -- there was no connection
 
 pub returns-in-Err-clause-refused : goal.returns-in-Err-clause-refused
-returns-in-Err-clause-refused g c =
-    rw c.unconnected.ensures (unconnected_refused _ g.S.Start _ c.in-Err.refusal c.connect.new.opener.has_opened c.in-Err.left c.in-Err.ensures.named c.in-Err.ensures.left)
+returns-in-Err-clause-refused g c = still_refused _ g.S.Start _ c.in-Err.refusal c.in-Err.left.rest c.in-Err.ensures.left
 
 pub returns-in-Err-clause-named : goal.returns-in-Err-clause-named
 returns-in-Err-clause-named g c = inl c.in-Err.ensures.named
