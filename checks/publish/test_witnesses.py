@@ -38,6 +38,10 @@ class Witness(Standby):
     def text(self) -> bytes:
         return (self.folder / "checkpoint.txt").read_bytes()
 
+    def forgets(self) -> None:
+        for path in (*self.folder.glob("copy.db*"), self.minutes):
+            path.unlink()
+
     def signed(self) -> bool:
         """ssh-keygen finds its signature of its checkpoint."""
         signers = self.room / f"{self.name}.signers"
@@ -75,25 +79,21 @@ def test_it_signs_what_it_reached_and_nothing_that_goes_back(signed: Place, one:
     del less.lines[9:]
     again = shown(signed)
     again.lines[4] = again.lines[4].replace(b"\tk1\t", b"\tk-1\t")
+    one.forgets()
     for other in (less, again):
-        for path in (*one.folder.glob("copy.db*"), one.minutes):
-            path.unlink()
         says = f"refused witness: these {len(other.lines)} calls don't go on from the 11 that "
         # (its lists are those of fewer calls)
         if len(other.lines) == 9:
             other.files = {**other.files, "/level": b"sbat,1,2021030218\n"}
         one.follows(other, 1, says)
         assert one.text == wanted and one.signed()
-    for path in (*one.folder.glob("copy.db*"), one.minutes):
-        path.unlink()
+        one.forgets()
     signed.revokes(number(3))
     one.follows(shown(signed), 0, "calls 13\n")
     assert b"\ncalls 13\n" in one.text and one.signed()
 
 
-def test_a_run_that_was_stopped_before_its_signature_is_gone_on_with(
-    signed: Place, one: Witness
-) -> None:
+def test_a_run_that_was_stopped_before_it_signed_is_gone_on_with(signed: Place, one: Witness) -> None:
     sign = one.folder / "checkpoint.txt.sig"
     old = sign.read_bytes()
     signed.revokes(number(3))
@@ -158,9 +158,7 @@ def test_a_witness_that_never_answers_holds_nothing_up(signed: Place, one: Witne
     assert {*named(one)} <= signed.named()
 
 
-def test_a_signature_of_another_key_or_for_something_else_is_none(
-    signed: Place, one: Witness
-) -> None:
+def test_a_signature_of_another_key_or_for_another_use_is_none(signed: Place, one: Witness) -> None:
     words = listed(signed, one)
     signed.revokes(number(3))
     one.follows(shown(signed), 0, "calls 13\n")
