@@ -46,10 +46,9 @@ class Witness(Standby):
         """ssh-keygen finds its signature of its checkpoint."""
         signers = self.room / f"{self.name}.signers"
         signers.write_text(f"{self.name} {self.key}\n")
-        said = ran(
-            "ssh-keygen", "-Y", "verify", "-f", signers, "-I", self.name, "-n",
-            "kovelamiru-witness", "-s", self.folder / "checkpoint.txt.sig", given=self.text,
-        )
+        words = ("-f", signers, "-I", self.name, "-n", "kovelamiru-witness", "-s")
+        sign = self.folder / "checkpoint.txt.sig"
+        said = ran("ssh-keygen", "-Y", "verify", *words, sign, given=self.text)
         return said.startswith(b"Good ")
 
 
@@ -93,7 +92,7 @@ def test_it_signs_what_it_reached_and_nothing_that_goes_back(signed: Place, one:
     assert b"\ncalls 13\n" in one.text and one.signed()
 
 
-def test_a_run_that_was_stopped_before_it_signed_is_gone_on_with(signed: Place, one: Witness) -> None:
+def test_a_run_stopped_before_it_signed_is_gone_on_with(signed: Place, one: Witness) -> None:
     sign = one.folder / "checkpoint.txt.sig"
     old = sign.read_bytes()
     signed.revokes(number(3))
@@ -190,9 +189,6 @@ def test_a_list_that_is_none_is_said(signed: Place, one: Witness, text: str, say
     signed.publish(2, says, *words)
     path.chmod(0o666)
     signed.publish(2, "others can write witnesses", *words)
-
-
-# ---- a mirror
 
 
 class Mirror:
