@@ -243,9 +243,7 @@ def forged(place: Place, **changed: bytes) -> None:
         lines, count = re.subn(f"(?m)^[0-9a-f]{{64}}  {re.escape(name)}\n", due, lines)
         assert count == 1, name
     (place.link / "SHA256SUMS").write_text(lines)
-    (place.link / "SHA256SUMS.sig").unlink()
-    words = "ssh-keygen -q -Y sign -f publisher -n kovelamiru-publish".split()
-    ran(*words, place.link / "SHA256SUMS", cwd=place.room)
+    place.signs_sums()
 
 
 @pytest.mark.parametrize("name", ("dbx_esl", "shim_dbx_esl", "db_esl", "level_csv", "dbx_auth"))
