@@ -71,7 +71,7 @@ def test_a_machine_tells_a_fault_in_words_and_no_page(monkeypatch: pytest.Monkey
         found = http.Answer(status, "text/html", io.BytesIO(b"<html>\r\n<h1>nginx</h1>\r\n"))
         monkeypatch.setattr(desk, "once", lambda _, found=found: found)
         with pytest.raises(Stop) as fault:
-            desk.asked("/level")
+            desk.get("/level")
         assert str(fault.value).startswith(f"GET /level: {says}") and "<" not in str(fault.value)
 
 

@@ -173,7 +173,15 @@ class Place:
         date = spelled(time.time() + seconds)
         made = re.sub("(?m)^# date .*", f"# date {date}", self.sums())
         (self.link / "SHA256SUMS").write_text(made)
+        if (self.link / "SHA256SUMS.sig").exists():
+            self.signs_sums()
         return date
+
+    def signs_sums(self) -> None:
+        """The publisher's key signs the sums as they are now."""
+        (self.link / "SHA256SUMS.sig").unlink()
+        words = "ssh-keygen -q -Y sign -f publisher -n kovelamiru-publish".split()
+        ran(*words, self.link / "SHA256SUMS", cwd=self.room)
 
     def named(self) -> set[str]:
         """The names that have sums."""

@@ -38,14 +38,17 @@ class Witness(Standby):
     def text(self) -> bytes:
         return (self.folder / "checkpoint.txt").read_bytes()
 
+    def forgets(self) -> None:
+        for path in (*self.folder.glob("copy.db*"), self.minutes):
+            path.unlink()
+
     def signed(self) -> bool:
         """ssh-keygen finds its signature of its checkpoint."""
         signers = self.room / f"{self.name}.signers"
         signers.write_text(f"{self.name} {self.key}\n")
-        said = ran(
-            "ssh-keygen", "-Y", "verify", "-f", signers, "-I", self.name, "-n",
-            "kovelamiru-witness", "-s", self.folder / "checkpoint.txt.sig", given=self.text,
-        )
+        words = ("-f", signers, "-I", self.name, "-n", "kovelamiru-witness", "-s")
+        sign = self.folder / "checkpoint.txt.sig"
+        said = ran("ssh-keygen", "-Y", "verify", *words, sign, given=self.text)
         return said.startswith(b"Good ")
 
 
@@ -75,25 +78,21 @@ def test_it_signs_what_it_reached_and_nothing_that_goes_back(signed: Place, one:
     del less.lines[9:]
     again = shown(signed)
     again.lines[4] = again.lines[4].replace(b"\tk1\t", b"\tk-1\t")
+    one.forgets()
     for other in (less, again):
-        for path in (*one.folder.glob("copy.db*"), one.minutes):
-            path.unlink()
         says = f"refused witness: these {len(other.lines)} calls don't go on from the 11 that "
         # (its lists are those of fewer calls)
         if len(other.lines) == 9:
             other.files = {**other.files, "/level": b"sbat,1,2021030218\n"}
         one.follows(other, 1, says)
         assert one.text == wanted and one.signed()
-    for path in (*one.folder.glob("copy.db*"), one.minutes):
-        path.unlink()
+        one.forgets()
     signed.revokes(number(3))
     one.follows(shown(signed), 0, "calls 13\n")
     assert b"\ncalls 13\n" in one.text and one.signed()
 
 
-def test_a_run_that_was_stopped_before_its_signature_is_gone_on_with(
-    signed: Place, one: Witness
-) -> None:
+def test_a_run_stopped_before_it_signed_is_gone_on_with(signed: Place, one: Witness) -> None:
     sign = one.folder / "checkpoint.txt.sig"
     old = sign.read_bytes()
     signed.revokes(number(3))
@@ -158,9 +157,7 @@ def test_a_witness_that_never_answers_holds_nothing_up(signed: Place, one: Witne
     assert {*named(one)} <= signed.named()
 
 
-def test_a_signature_of_another_key_or_for_something_else_is_none(
-    signed: Place, one: Witness
-) -> None:
+def test_a_signature_of_another_key_or_for_another_use_is_none(signed: Place, one: Witness) -> None:
     words = listed(signed, one)
     signed.revokes(number(3))
     one.follows(shown(signed), 0, "calls 13\n")
@@ -192,9 +189,6 @@ def test_a_list_that_is_none_is_said(signed: Place, one: Witness, text: str, say
     signed.publish(2, says, *words)
     path.chmod(0o666)
     signed.publish(2, "others can write witnesses", *words)
-
-
-# ---- a mirror
 
 
 class Mirror:
@@ -249,9 +243,7 @@ def forged(place: Place, **changed: bytes) -> None:
         lines, count = re.subn(f"(?m)^[0-9a-f]{{64}}  {re.escape(name)}\n", due, lines)
         assert count == 1, name
     (place.link / "SHA256SUMS").write_text(lines)
-    (place.link / "SHA256SUMS.sig").unlink()
-    words = "ssh-keygen -q -Y sign -f publisher -n kovelamiru-publish".split()
-    ran(*words, place.link / "SHA256SUMS", cwd=place.room)
+    place.signs_sums()
 
 
 @pytest.mark.parametrize("name", ("dbx_esl", "shim_dbx_esl", "db_esl", "level_csv", "dbx_auth"))
