@@ -19,7 +19,7 @@ module _ {D S : Type 0} (g : Ghosts D) (first : start.Ghosts S) (owner : List �
     pub is : ending ≡ ending_of end
     pub watch : LineWatch
     pub followed : (IsUnfound g first owner end × Keeps before after)
-        ⊎ AtFoundOrMade {D = D} {g = g} first owner (Follows g owner known before after watch end)
+        ⊎ AtFoundOrMade {D = D} {g = g} first owner (Follows g known before after watch end)
 
   -- the minutes couldn't be opened: this is the refusal, and nothing was done
   pub record HasNoMinutes : Type 0 where

@@ -107,11 +107,11 @@ fn follow_and_close<D: Disk + Drop, R: BufRead, W: Buffered>(
 /// memory for one line, and the store's.
 ///
 /// The faults of the desk's file come first. File, NotADesk, Version: no desk is found in it or
-/// made. Owner: the desk has another; it was only read, whatever its version. Minute: the place is the first line that isn't that of the
-/// desk, or what the rules give; a last line without a line break is such a line. Read: a read
-/// failed, or was interrupted. Write: all was followed, and a prefix of the lines may be written.
-/// NoMemory: memory was refused. Store: the store failed. Reopen: it had failed before. After a
-/// fault the lines that were followed stay.
+/// made. Owner: the desk has another; it was only read, whatever its version. Minute: the place is
+/// the first line that isn't that of the desk, or what the rules give; a last line without a line
+/// break is such a line. Read: a read failed, or was interrupted. Write: all was followed, and a
+/// prefix of the lines may be written. NoMemory: memory was refused. Store: the store failed.
+/// Reopen: it had failed before. After a fault the lines that were followed stay.
 pub fn follow_input<S: Start, R: Read + Drop, W: Buffered>(
     rt: &HostRuntime,
     db: &str,
