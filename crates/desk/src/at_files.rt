@@ -1,6 +1,6 @@
-//! The calls that subcommands make, on files and the standard streams. They are proved for whatever
-//! the desk's files held at first (`start`).
-ghost use Rattle.desk.specs.Done.{Does};
+//! The calls that subcommands make, on files and the standard streams, each passed on with its
+//! values. No clause of this crate says what they do: the crates below say it of their calls.
+ghost use Rattle.std.specs.Prelude.{⊤};
 
 use base::Guid;
 use cli_arguments::{
@@ -15,8 +15,7 @@ use cli_output::{Buffered, Ending};
 use cli_requests::{answer_from, serve_from};
 use desk_exports::Export;
 use desk_types::ProposalNumber;
-use sqlite::{FileFrom, Start};
-use sqlite_disk::Disk;
+use sqlite::Start;
 use std::io::Read;
 
 /// Subcommands on files, of which those of a desk held this at first.
@@ -26,8 +25,7 @@ pub struct AtFiles<S> {
 }
 
 impl<S: Start> Calls for AtFiles<S> {
-    ghost does = { λ _ meaning streams result.
-        Does ⟦<FileFrom<S> as Disk>⟧ S.Start meaning streams result };
+    ghost does = { λ _ _ _ _. ⊤ };
 
     fn init(self, rt: &HostRuntime, db: &str, owner: &Guid) -> Ending {
         make_desk(rt, db, self.start, owner).ending()
