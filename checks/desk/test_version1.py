@@ -1,10 +1,9 @@
-"""A file of version 1 (examples/version-1) becomes one of version 2 at its first opening.
-
-Each subcommand with DB but `init` opens it, `follow` for its owner alone; it keeps its calls and
-exports, and the next opening writes nothing. Earlier keys and revocations still count; images of before are in the impacts of new
-proposals; an audit passes its minutes, with calls of before and new ones. A file with the same
-tables and rows, made in the opposite order, has the same exports, and the same day at the served
-desk."""
+"""A file of version 1 (examples/version-1) becomes one of version 2 at its first opening. Each
+subcommand with DB but `init` opens it, `follow` for its owner alone; it keeps its calls and
+exports, and the next opening writes nothing. Earlier keys and revocations still count; images of
+before are in the impacts of new proposals; an audit passes its minutes, with calls of before and
+new ones. A file with the same tables and rows, made in the opposite order, has the same exports,
+and the same day at the served desk."""
 from __future__ import annotations
 
 import contextlib
