@@ -98,6 +98,8 @@ def test_a_follow_for_another_owner_only_reads_it(desk: Program, path: str) -> N
     # (a log that was opened has a header of 41 bytes, and no commit behind it)
     log = Path(f"{path}-wal")
     assert not log.exists() or log.stat().st_size <= 41
+    # its own opening makes it one of version 2
+    expect(desk.minutes(path), MINUTES, "the minutes")
     keeps(desk, path)
 
 
