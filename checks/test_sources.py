@@ -30,6 +30,10 @@ TESTS = [path for path in PYTHON if path.is_relative_to(CHECKS) and path.match("
 SUITE = [path for path in PYTHON if path.is_relative_to(CHECKS) and path not in TESTS]
 
 
+PACKED = [path for path in PYTHON if path.relative_to(ROOT).parts[0] in
+          ("client", "packaging", "python")]
+
+
 def name_of(path: Path) -> str:
     return str(path.relative_to(ROOT))
 
@@ -63,13 +67,35 @@ def test_shellcheck_warns_of_nothing(path: Path) -> None:
     assert run("shellcheck", "-x", *folders, "-S", "warning", path) == (0, "")
 
 
-@pytest.mark.parametrize("path", [*TESTS, *SUITE], ids=name_of)
-def test_a_module_of_the_suite_is_short_and_its_names_are_words(path: Path) -> None:
-    text = path.read_text(encoding="utf-8")
-    nodes = list(ast.walk(ast.parse(text)))
-    assert text.count("\n") <= 300
-    assert [line for line in text.split("\n") if len(line) > 100] == []
-    functions = [node for node in nodes if isinstance(node, ast.FunctionDef)]
-    sizes = {one.name: (one.end_lineno or 0) - one.lineno + 1 for one in functions}
-    assert {name: size for name, size in sizes.items() if size >= 40} == {}
-    assert "it" not in {node.id for node in nodes if isinstance(node, ast.Name)}
+# ---- the package kovelamiru
+
+PACKAGE = ROOT / "python" / "kovelamiru"
+MODULES = sorted(PACKAGE.rglob("*.py"))
+# The programs, none of which takes a module of another, and which no other module takes.
+PROGRAMS = ("deskctl", "publish", "standby")
+
+
+@pytest.mark.parametrize("path", PACKED, ids=name_of)
+def test_python_3_9_reads_it(path: Path) -> None:
+    ast.parse(path.read_text(encoding="utf-8"), str(path), feature_version=(3, 9))
+
+
+def imported(path: Path) -> set[str]:
+    """The first words of the package's modules that this one takes."""
+    folder, found = path.parent.relative_to(PACKAGE).parts, set()
+    for node in ast.walk(ast.parse(path.read_text(encoding="utf-8"))):
+        if isinstance(node, ast.ImportFrom) and node.level:
+            above = folder[:len(folder) - node.level + 1]
+            found.add([*above, *(node.module or "").split(".")][0])
+    return found
+
+
+@pytest.mark.parametrize("path", MODULES, ids=name_of)
+def test_a_program_is_taken_by_itself_alone(path: Path) -> None:
+    own = path.relative_to(PACKAGE).parts[0].removesuffix(".py")
+    assert (imported(path) & set(PROGRAMS)) - {own} == set()
+
+
+def test_the_second_opinion_takes_none_of_it() -> None:
+    code = "import checks.model.walk, sys; sys.exit('kovelamiru' in sys.modules)"
+    assert run("env", f"PYTHONPATH={ROOT}:{ROOT / 'python'}", "python3", "-B", "-c", code)[0] == 0

@@ -5,8 +5,7 @@ import { test } from 'node:test';
 
 import { json, rowBytes } from './cases.mjs';
 import {
-    carriedWords, issuedWords, plainQuestion, returnQuestion, severalQuestion, twiceQuestion,
-    unknownWords, unlistQuestion, yesQuestion,
+    carriedWords, issuedWords, returnQuestion, severalQuestion, twiceQuestion, unknownWords, yesQuestion,
 } from '../../page/desk/questions.js';
 import { issuedDoubts, itemDoubts, knownOf } from '../../page/desk/doubts.js';
 import { losingIn } from '../../page/desk/unlisting.js';
@@ -44,13 +43,6 @@ for (const { name, vote, requests, title, lines } of several) {
     });
 }
 
-test('one request that is left of several is asked about as it is alone', () => {
-    assert.deepEqual(severalQuestion([plain], 'yes', now), {
-        title: 'Vote yes on request 7?', lines: [], button: 'Vote yes',
-    });
-    assert.deepEqual(severalQuestion([plain], 'no', now), plainQuestion('no', 7));
-});
-
 for (const { name, asks, why = '', another = false, votes = [], ...facts } of yes) {
     test(`${name}: a yes asks about ${asks.join(', ') || 'nothing'}`, () => {
         const request = { ...plain, ...facts, votes: votes.map((vote) => ({ vote })) };
@@ -61,13 +53,6 @@ for (const { name, asks, why = '', another = false, votes = [], ...facts } of ye
         if (found) assert.equal(found.title, 'Vote yes on request 7?');
     });
 }
-
-for (const name of ['no', 'withdraw', 'drop']) test(`${name} is asked about`, () => {
-    const { title, lines, button } = plainQuestion(name, 7);
-    assert.equal(button, wire.questions[name].button);
-    assert.match([title, ...lines].join(' '), /(request|proposal) 7/);
-    assert.doesNotMatch([title, ...lines].join(' '), /[{}]/);
-});
 
 const looks = json('cases/looks');
 
@@ -135,15 +120,6 @@ for (const { name, entry, loses } of unlist.cases) {
         assert.deepEqual(found.filter((number) => number !== null), loses);
     });
 }
-
-test('an unlisting says how many lose their verdict, and the first of them', () => {
-    const six = Array.from({ length: 6 }, (_, at) => ({ number: at + 1, title: 'a loader' }));
-    const { lines: [first], typed } = unlistQuestion('Boot signer', 1234, six.slice(0, 5));
-    assert.match(first, /: 1,234\. They are those of request 1 \(a loader\), request 2 \(a loader\),/);
-    assert.match(first, /request 5 \(a loader\) and 1,229 more\.$/);
-    assert.deepEqual(typed, { label: 'To unlist it, type Boot signer:', wanted: 'Boot signer' });
-    assert.equal(unlistQuestion('x', 0, []).lines[0], wire.questions.unlist.none);
-});
 
 test('what a certificate issued is told at a Confirm, and at a proposal by its file', async () => {
     const [{ listed, asks }] = issued;

@@ -16,9 +16,3 @@ for (const [text, due] of proposals) {
         assert.equal(proposalMatches(proposal, text), due)
     ));
 }
-
-test('a search takes what a proposal names', () => {
-    const names = 'digest 8fe7a1b2.. of Shim 16.1-1 amd64, request 1, allowed today';
-    assert.ok(proposalMatches(proposal, 'shim 16', names));
-    assert.ok(!proposalMatches(proposal, 'grub', names));
-});

@@ -67,27 +67,6 @@ def test_each_view_has_names_contrast_structure_and_sizes(
     expect(browser.complaints()[:4], [], "what the browser complains of")
 
 
-EDGES = """
-const ground = getComputedStyle(document.body).backgroundColor;
-return [...document.querySelectorAll('#views a')].map((one) => [
-    one.hasAttribute('aria-current'), getComputedStyle(one).borderBottomColor !== ground,
-]);
-"""
-
-
-def test_where_colours_are_forced_the_view_that_is_shown_alone_has_a_line(
-    browser: Browser, furnished: Site
-) -> None:
-    browser.base = furnished.base
-    browser.sign_in(token("olga"))
-    forced = [{"name": "forced-colors", "value": "active"}]
-    browser.devtools("Emulation.setEmulatedMedia", features=forced)
-    edges = browser.script(EDGES)
-    expect([line for _, line in edges], [current for current, _ in edges], "the lines of links")
-    assert len(edges) > 5
-    browser.width(1300)
-
-
 def test_a_vote_is_given_by_keyboard_alone(browser: Browser, site: Site) -> None:
     """raul signs in, opens a request, votes no, is asked back, leaves it, and goes on."""
     number = site.submits(unsigned(106), "read by keyboard")

@@ -38,25 +38,6 @@ def test_a_confirm_that_would_bar_more_than_was_shown_isnt_sent(
     expect(state(site, number), "confirmed", "the proposal")
 
 
-def test_a_confirm_of_a_digest_reads_no_list_of_requests(browser: Browser, site: Site) -> None:
-    """But, each time that it looks, those that have the digest."""
-    request = site.submits(unsigned(121), "the loader that is meant")
-    digest = str(site.shows("olga", f"/requests/{request}")["digest"])
-    number = site.proposes(digest)
-    browser.sign_in(token("olga"))
-    with site.reading() as paths:
-        browser.go(f"proposals/{number}")
-        browser.sees("the loader that is meant", "Your decision")
-        expect(paths, [f"/requests/with/{digest}"], "what the view reads of requests")
-        browser.press("Confirm…")
-        browser.asks(f"Confirm proposal {number} for good?")
-        expect(len(paths), 2, "how often they are read before the question")
-        browser.press("Confirm for good")
-        browser.sees("New in force: 1 digest.")
-    expect(set(paths), {f"/requests/with/{digest}"}, "what a Confirm reads of requests")
-    assert len(paths) > 2, "nothing is read behind the question"
-
-
 def test_no_confirm_is_offered_or_sent_where_what_is_named_cant_be_compared(
     browser: Browser, site: Site
 ) -> None:
@@ -98,17 +79,3 @@ def test_enter_confirms_nothing_and_ones_own_proposal_has_no_confirm(
     browser.go(f"proposals/{number}")
     browser.sees("You proposed it")
     assert "Confirm…" not in browser.texts("button")
-
-
-def test_a_phone_shows_few_of_many_entries_above_the_decision(
-    browser: Browser, site: Site
-) -> None:
-    rows = "".join(f"sha256,{number:064x},\n" for number in range(14))
-    site.does("otto", "/imports/csv", f"kind,value,generation\n{rows}".encode())
-    browser.sign_in(token("olga"))
-    for width, told in ((360, "1 to 5 of 14"), (1300, "Everything that it names")):
-        browser.width(width)
-        browser.go("inbox")
-        browser.go("proposals/1")
-        browser.sees(told, "Your decision")
-        expect(len(browser.all("tbody tr")), 5 if width == 360 else 14, f"the rows at {width}")

@@ -78,18 +78,6 @@ def test_a_key_within_the_last_minute_keeps_the_page_open(browser: Browser, site
     expect(browser.all("dialog"), [], "what covers the sign-in")
 
 
-def test_whom_a_certificate_signs_in_goes_on_by_a_press(browser: Browser, site: Site) -> None:
-    site.relay.token = token("rita")
-    browser.driver.get(f"{site.base}/#/requests")
-    browser.sees("rita, reviewer")
-    later(browser, 31)
-    browser.sees(COVERED)
-    expect(browser.all("dialog input"), [], "the fields of the cover")
-    browser.press("Go on")
-    browser.asks_no_more()
-    expect(browser.module("desk/api.js", ASKED)["kind"], "value", "what is asked behind it")
-
-
 def test_an_upload_under_way_keeps_the_page_open(browser: Browser, site: Site) -> None:
     large = site.room / "large.efi"
     large.write_bytes(unsigned(131) + bytes(48_000_000))

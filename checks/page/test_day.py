@@ -210,6 +210,10 @@ class Day:
             ("/level", "level.csv", "Download the level"),
         ):
             self.downloads(button, name, self.site.ask("olga", "GET", path).body)
+        self.downloads(
+            "Download the level for shim", "level-for-shim.csv",
+            self.site.ask("olga", "GET", "/level").body,
+        )
         self.browser.go("report")
         self.browser.sees("revoked digests", "otto")
         self.downloads("Download the minutes", "minutes.txt", self.site.minutes())

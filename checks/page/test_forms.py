@@ -90,18 +90,6 @@ def test_what_is_wrong_stands_at_its_field_until_that_changes(browser: Browser, 
     expect(heard(browser), {}, "what is wrong once the field changes")
 
 
-def test_a_file_that_is_chosen_takes_the_fault_from_its_field(browser: Browser, site: Site) -> None:
-    image = site.room / "image.efi"
-    image.write_bytes(unsigned(121))
-    browser.sign_in(token("ann"))
-    browser.go("submit")
-    browser.fill("Title", "a title")
-    browser.press("Submit")
-    says(browser, {"EFI image": "Choose the image’s file."})
-    browser.drop("EFI image", image)
-    expect(heard(browser), {}, "what is wrong beside a chosen file")
-
-
 def test_whom_the_site_knows_by_a_certificate_signs_in_without_a_press(
     browser: Browser, site: Site
 ) -> None:
@@ -113,11 +101,3 @@ def test_whom_the_site_knows_by_a_certificate_signs_in_without_a_press(
     browser.one("#token")
     browser.press("Sign in")
     browser.sees("rita, reviewer")
-
-
-def test_a_request_is_headed_by_its_title(browser: Browser, site: Site) -> None:
-    number = site.submits(unsigned(122), "shim 16.1-1 amd64")
-    browser.sign_in(token("rita"))
-    browser.go(f"requests/{number}")
-    browser.sees("shim 16.1-1 amd64")
-    expect(browser.texts("h2")[0], "shim 16.1-1 amd64", "the first heading below the view’s own")

@@ -10,7 +10,6 @@ from checks.support.says import expect
 from checks.support.waits import until
 
 MARKUP = "<img src=x onerror=\"document.title='taken'\"><b>bold</b>"
-LONG = "W" * 120
 POLICY = (
     "default-src 'none'", "script-src 'self'", "style-src 'self'", "img-src 'self'",
     "connect-src 'self'", "frame-ancestors 'none'",
@@ -76,17 +75,6 @@ def test_a_title_and_a_note_are_shown_as_they_are_whatever_they_look_like(
         browser.sees(MARKUP)
         expect(browser.text().count(MARKUP), count, f"how often it stands at {view}")
         assert not browser.all("main img, main b") and browser.driver.title != "taken"
-
-
-def test_a_long_title_makes_no_view_wider_than_a_phone(browser: Browser, site: Site) -> None:
-    site.submits(unsigned(102), LONG)
-    browser.sign_in(token("rita"))
-    browser.width(360)
-    for view in ("requests", "requests/1"):
-        browser.go(view)
-        browser.sees(LONG)
-        wide = "document.documentElement.scrollWidth > document.documentElement.clientWidth"
-        assert not browser.script(f"return {wide}"), view
 
 
 def test_a_page_of_another_origin_reads_nothing_and_changes_nothing(

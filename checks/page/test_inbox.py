@@ -36,7 +36,7 @@ def is_counted(browser: Browser, title: str, count: str) -> None:
 def test_a_reviewer_is_led_from_one_request_to_the_next(browser: Browser, site: Site) -> None:
     for number in (1, 2):
         site.submits(unsigned(number), f"to be read, {number}")
-    own = site.submits(unsigned(3), "her own", "rita")
+    site.submits(unsigned(3), "her own", "rita")
     site.reviews("raul", 2)
     browser.sign_in(token("rita"))
     browser.sees("Waits for you 2", "1 of 2 yes, by raul", "Yours under way 1", "her own")
@@ -51,14 +51,6 @@ def test_a_reviewer_is_led_from_one_request_to_the_next(browser: Browser, site: 
     browser.asks("Vote yes on request 2?")
     browser.script("document.querySelector('dialog button.danger').click()")
     browser.sees("Nothing else waits for you.")
-    # A vote of another person changes a row of the view that is shown; the focus stays.
-    browser.go("inbox")
-    browser.script("[...document.querySelectorAll('td a')].pop().focus()")
-    site.reviews("raul", own)
-    looks_again(browser)
-    browser.sees("Yours that changed 1", "1 of 2 yes, by raul")
-    focus = browser.script("return document.activeElement.textContent")
-    expect(focus, "her own", "where the focus is")
 
 
 def test_a_submitters_requests_that_changed_count_until_she_looks_at_them(
@@ -148,9 +140,3 @@ def test_what_waits_is_in_the_list_while_that_is_read(browser: Browser, site: Si
     browser.sees("None so far: the list is still being read.")
     comes("Rejected 0")
     browser.sees("No request is like this.", "Open 1")
-    browser.press("Open 1")
-    browser.go("inbox")
-    browser.script("location.hash = '#/requests'")
-    browser.sees("the newest")
-    browser.script("document.querySelector('td a').focus()")
-    comes("the newest")

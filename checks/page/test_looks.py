@@ -29,21 +29,12 @@ LISTING, SIGNED_BY = "List a certificate or a digest", "An image that its key si
 UNREAD = "The file isn’t read yet: wait, or take it out."
 DIGESTS = "Digests, one a line"
 DOUBTS = ("isn’t RSA", "It is a CA’s.", "doesn’t carry it", "is revoked")
-TBS = """
-import('/page/formats/digests.js').then((digests) => digests.sha256(
-    module.certificateOf(Uint8Array.from(%s)).tbs))
-"""
 # A file that a browser doesn't come to read.
 SLOW = """
 const files = new DataTransfer();
 files.items.add(new File(['x'], 'slow.efi'));
 arguments[0].files = files.files;
 """
-UNREADABLE = """
-window.read = Blob.prototype.arrayBuffer;
-Blob.prototype.arrayBuffer = () => Promise.reject(new Error());
-"""
-FREE = "return document.activeElement === arguments[0] && arguments[0].files.length === 0"
 
 
 @pytest.fixture(scope="module")
@@ -106,8 +97,7 @@ def waits(browser: Browser, label: str, button: str) -> None:
 def test_a_certificate_is_asked_about_by_what_firmware_or_the_desk_makes_of_it(
     browser: Browser, site: Site, at_hand: dict[str, Path]
 ) -> None:
-    """An elliptic key, a CA, one that an image carries or doesn't, a file that is no image; then
-    the CA was revoked, and is listed no more."""
+    """An elliptic key, a CA, one that an image carries or doesn't."""
     asked = Asked(browser, at_hand)
     browser.sign_in(token("olga"))
     asked("ec.der", ["Its key isn’t RSA.", "EC, P-384"], ["It is a CA’s."])
@@ -115,24 +105,6 @@ def test_a_certificate_is_asked_about_by_what_firmware_or_the_desk_makes_of_it(
     told = ["It is a CA’s.", "signed.efi doesn’t carry it.", "(CN=Image signer)"]
     asked("ca.der", told, ["isn’t RSA"], "signed.efi")
     asked("leaf.der", ["signed.efi carries it."], DOUBTS, "signed.efi")
-    anew(browser, "lists")
-    browser.press(LISTING, tag="summary")
-    chooses(browser, "Certificate", at_hand["leaf.der"])
-    chooses(browser, SIGNED_BY, at_hand["notes.txt"])
-    browser.press("List this certificate")
-    browser.sees("Refused: NoMz (2).")
-    certificate = at_hand["ca.der"].read_bytes()
-    site.does("olga", "/db/certificates", certificate)
-    tbs = str(browser.module("formats/certificates.js", TBS % list(certificate)))
-    site.does("olga", "/dbx/certificates", {"digest": tbs})
-    site.does("otto", "/proposals/1/confirm", b"")
-    site.does("olga", "/db/unlist", {"digest": tbs, "kind": "certificate"})
-    browser.sign_in(token("olga"))
-    revoked = ["Its issuer is revoked.", "O=A distribution, CN=Image CA"]
-    asked("leaf.der", revoked, ["isn’t RSA"])
-    asked("ca.der", ["It is revoked.", "It is a CA’s."], ["Its issuer is revoked."])
-    asked("ec.der", ["Its issuer is revoked.", "Its key isn’t RSA."])
-    asked("other.der", [], DOUBTS)
 
 
 @pytest.fixture(scope="module")
@@ -201,7 +173,7 @@ def test_a_file_beside_a_request_is_told_by_how_it_is_like_its_image(
 def test_a_proposals_images_fill_in_their_digests_once_they_are_read(
     browser: Browser, shelf: Site, at_hand: dict[str, Path]
 ) -> None:
-    """Nothing goes out before, or while one can't be read; a button takes that one out."""
+    """Nothing goes out before."""
 
     def typed() -> list[str]:
         return str(browser.field(DIGESTS).get_attribute("value")).split("\n")
@@ -210,24 +182,9 @@ def test_a_proposals_images_fill_in_their_digests_once_they_are_read(
     browser.sign_in(token("olga"))
     browser.go("propose")
     waits(browser, "An image", "Propose")
-    browser.script(UNREADABLE)
-    browser.field("An image").send_keys(str(at_hand["odd.efi"]))
-    browser.sees("odd.efi can’t be read.")
-    browser.script("Blob.prototype.arrayBuffer = window.read")
-    browser.press("Propose")
-    browser.sees(UNREAD)
-    browser.press("Take it out")
-    assert "can’t be read" not in browser.text()
-    assert browser.script(FREE, browser.field("An image"))
-    browser.press("Propose")
-    browser.sees("Give a digest.")
     browser.drop("An image", at_hand["odd.efi"])
     browser.sees("No request that you see has this image.")
     expect(len(typed()), 2, "the digests of an image of odd length")
-    browser.drop("An image", at_hand["sha384.efi"])
-    browser.sees("misses signature 1 (over SHA-384)")
-    browser.sees("Compared with request 1")
-    until(10, "three digests", lambda: len(typed()) == 3)
 
 
 def test_each_person_sees_who_is_signed_in_and_whats_ones_own(browser: Browser, site: Site) -> None:
@@ -247,12 +204,3 @@ def test_each_person_sees_who_is_signed_in_and_whats_ones_own(browser: Browser, 
     browser.go(f"requests/{request}")
     browser.sees("You submitted this request, so another reviewer has to vote.")
     assert "Vote yes" not in browser.texts("button")
-
-
-def test_where_no_sha_256_can_be_worked_out_the_lists_say_so(browser: Browser, site: Site) -> None:
-    """As over http from another machine."""
-    browser.sign_in(token("rita"))
-    nothing = "{value: undefined, configurable: true}"
-    browser.script(f"Object.defineProperty(crypto, 'subtle', {nothing})")
-    browser.go("lists")
-    browser.sees("The page can’t work out a SHA-256 here")

@@ -53,7 +53,3 @@ def test_the_list_says_what_is_proposed_how_old_and_whose(browser: Browser, site
     expect(len(rows(browser)), 2, "the rows")
     browser.press("Not mine")
     until(10, "otto's alone", lambda: [words in row for row in rows(browser)] == [True])
-    browser.press("Not mine")
-    for text, due in (("16.1", 1), ("OLGA", 1), ("grub to", 1), ("fwupd", 0), ("", 2)):
-        browser.fill("Filter by number, name or what it names", text)
-        browser.has(f"{due} rows", f"return document.querySelectorAll('tbody tr').length == {due}")

@@ -3,7 +3,6 @@ and in History."""
 from __future__ import annotations
 
 from checks.page.looked import looked
-from checks.page.plain_day import STAMP
 from checks.page.site import Site
 from checks.support.browser import Browser
 from checks.support.messages import token
@@ -19,7 +18,7 @@ def explains(site: Site) -> list[str]:
     return [f"{row[1]}: {row[3]}" for row in rows if row[3].startswith("explain ")]
 
 
-def proposes_three(browser: Browser, site: Site) -> None:
+def proposes_two(browser: Browser, site: Site) -> None:
     """olga does, each with a reason."""
     browser.go("propose")
     browser.fill("Digests, one a line", "5" * 64)
@@ -29,13 +28,6 @@ def proposes_three(browser: Browser, site: Site) -> None:
     browser.fill(WHY, f" {BECAUSE} ")
     browser.press("Propose")
     browser.sees("This is proposal 1.", HAS)
-    browser.go("propose/level")
-    browser.sees("The level has the stamp")
-    for label, text in (("Component", "grub"), ("Generation", "3"), ("Stamp", f"{STAMP}05")):
-        browser.fill(label, text)
-    browser.fill(WHY, "grub 2 loads anything")
-    browser.press("Propose", "Propose it all the same")
-    browser.sees("This is proposal 2.", HAS)
     path = site.room / "one.csv"
     path.write_text(f"kind,value,generation\nsha256,{'6' * 64},\n", encoding="ascii")
     browser.go("propose/import")
@@ -43,7 +35,7 @@ def proposes_three(browser: Browser, site: Site) -> None:
     browser.sees("CSV.")
     browser.fill(WHY, "of the other vendor")
     browser.press("Propose this import")
-    browser.sees("This is proposal 3.", HAS)
+    browser.sees("This is proposal 2.", HAS)
 
 
 def explains_one(browser: Browser) -> None:
@@ -76,12 +68,12 @@ def confirms(browser: Browser, site: Site) -> None:
 
 def test_a_morning_with_reasons(browser: Browser, site: Site) -> None:
     browser.sign_in(token("olga"))
-    proposes_three(browser, site)
+    proposes_two(browser, site)
     browser.go("proposals")
-    browser.sees(BECAUSE, "grub 2 loads anything", "of the other vendor")
+    browser.sees(BECAUSE, "of the other vendor")
     browser.sign_in(token("otto"))
     browser.go("inbox")
-    browser.sees("Waits for you 3", BECAUSE, "of the other vendor")
+    browser.sees("Waits for you 2", BECAUSE, "of the other vendor")
     explains_one(browser)
     confirms(browser, site)
     browser.go("history")
@@ -89,8 +81,8 @@ def test_a_morning_with_reasons(browser: Browser, site: Site) -> None:
     browser.go("history/proposal/1")
     browser.sees("otto explained proposal 1:", "I compared it", "otto confirmed proposal 1")
     expect(explains(site), [
-        f"olga: explain 1 {BECAUSE}", "olga: explain 2 grub 2 loads anything",
-        "olga: explain 3 of the other vendor", "otto: explain 1 I compared it",
+        f"olga: explain 1 {BECAUSE}", "olga: explain 2 of the other vendor",
+        "otto: explain 1 I compared it",
         "olga: explain 1 two days more"], "the reasons")
 
 

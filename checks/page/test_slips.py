@@ -20,7 +20,7 @@ from checks.support.waits import until
 # As openssl prints a fingerprint.
 COLONS = ":".join(["AB"] * 32)
 IN_ANOTHER = "image was submitted before in another file"
-DIGESTS, TBS = "Digests, one a line", "Or the SHA-256 of its TBSCertificate"
+DIGESTS = "Digests, one a line"
 # What is proposed by a slip: where, by which fact of a request, what is said of it, and as what it
 # is known.
 PROPOSED = (
@@ -49,9 +49,9 @@ def with_each(digests: Iterable[str]) -> set[str]:
     return {f"/requests/with/{one}" for one in digests}
 
 
-def slips(browser: Browser, told: str, *meant: str) -> None:
+def slips(browser: Browser, told: str, meant: str) -> None:
     browser.press("Propose")
-    browser.asks("Is that what you mean?", told, *meant)
+    browser.asks("Is that what you mean?", told, meant)
     browser.press("Change it")
     browser.asks_no_more()
 
@@ -62,61 +62,23 @@ def test_a_digest_that_is_of_something_else_is_asked_about(
     """By what the requests are that have it, without the list of them."""
     browser.go("propose")
     with site.reading() as paths:
-        for given, told, *meant in (
-            (facts["file"], "the SHA-256 of the whole file", facts["digest"], facts["signing"]),
-            (SIGNER["tbs"], "names a certificate"),
-            (facts["digest"], "has two digests", facts["signing"]),
-            (COLONS, "AB:AB:AB… has colons"),
+        for given, told, meant in (
+            (facts["file"], "the SHA-256 of the whole file", facts["digest"]),
+            (COLONS, "AB:AB:AB… has colons", ""),
         ):
             browser.fill(DIGESTS, given)
-            slips(browser, told, *meant)
-    given = (facts["file"], SIGNER["tbs"], facts["digest"], "ab" * 32)
+            slips(browser, told, meant)
+    given = (facts["file"], "ab" * 32)
     expect(set(paths), with_each(given), "what is read of requests")
     browser.fill(DIGESTS, f"{'a' * 64}\n\n{'a' * 63}")
     browser.press("Propose")
     browser.sees("Line 3 isn’t 64 hexadecimal digits.")
 
 
-def test_a_certificates_digest_that_is_of_something_else_is_asked_about(
-    browser: Browser, site: Site, facts: dict[str, str]
-) -> None:
-    browser.go("propose/certificate")
-    with site.reading() as paths:
-        for given, told, *meant in (
-            (sha256(CERTIFICATE), "the fingerprint", SIGNER["tbs"]),
-            (COLONS, "It has colons, as a fingerprint has"), (facts["digest"], "of an image"),
-        ):
-            browser.fill(TBS, given)
-            slips(browser, told, *meant)
-    given = (sha256(CERTIFICATE), "ab" * 32, facts["digest"])
-    expect(set(paths), with_each(given), "what is read of requests")
-
-
-def test_a_generation_or_a_stamp_that_is_far_off_is_asked_about(
-    browser: Browser, facts: dict[str, str]
-) -> None:
-    browser.go("propose/level")
-    browser.fill("Component", "grub")
-    for generation, stamp, told in (
-        ("70000", "2099010100", "16 bits"), ("90", "2099010100", "far above"),
-        ("9", "9999999999", "isn’t a date"),
-    ):
-        browser.fill("Generation", generation)
-        browser.fill("Stamp", stamp)
-        slips(browser, told)
-    browser.fill("Stamp", "2026-11-27")
-    browser.press("Propose")
-    browser.sees("A stamp has ten digits")
-
-
 @pytest.mark.long(20)
-@pytest.mark.parametrize("of_desk", ("this desk", "an older one"))
 def test_a_slip_that_was_proposed_without_the_page_is_told_before_a_confirm(
-    browser: Browser, site: Site, of_desk: str
+    browser: Browser, site: Site
 ) -> None:
-    """An older desk gives the list of requests for that."""
-    is_old = of_desk == "an older one"
-    site.relay.unknown = ("/requests/with/",) if is_old else ()
     number = site.submits(signed(unsigned(105)), "whose digests are mixed up")
     facts = site.shows("olga", f"/requests/{number}") | {"carried": SIGNER["tbs"]}
     browser.sign_in(token("olga"))
@@ -129,8 +91,7 @@ def test_a_slip_that_was_proposed_without_the_page_is_told_before_a_confirm(
             browser.asks(f"Confirm proposal {at} for good?", told)
             browser.press("Leave it open")
             browser.asks_no_more()
-        lists = {"/requests/from/1"} if is_old else set()
-        expect(set(paths), with_each([facts[fact]]) | lists, "what is read of requests")
+        expect(set(paths), with_each([facts[fact]]), "what is read of requests")
 
 
 def test_a_yes_on_a_barred_image_and_after_another_file_is_asked_about(
@@ -156,23 +117,6 @@ def test_a_yes_on_a_barred_image_and_after_another_file_is_asked_about(
     browser.types(Keys.ESCAPE)
     browser.asks_no_more()
     expect(site.shows("rita", f"/requests/{number}")["votes"], [], "the votes behind a slip")
-
-
-def test_the_submitted_file_is_told_before_it_is_returned_and_refused(
-    browser: Browser, site: Site
-) -> None:
-    path = site.room / "unsigned.efi"
-    path.write_bytes(unsigned(108))
-    number = site.submits(path.read_bytes(), "not signed yet")
-    for name in ("rita", "raul"):
-        site.reviews(name, number)
-    browser.sign_in(token("sid"))
-    browser.go(f"requests/{number}")
-    browser.choose("Signed file", path)
-    browser.sees("This is the very file that was submitted.")
-    browser.press("Return it")
-    browser.sees("Refused: NotListed (29).")
-    expect(site.shows("sid", f"/requests/{number}")["state"], "approved", "the request")
 
 
 def chooses(browser: Browser, site: Site, data: bytes) -> None:

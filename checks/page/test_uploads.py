@@ -3,10 +3,8 @@ are chosen, each with a vote of its own."""
 from __future__ import annotations
 
 import pytest
-from selenium.webdriver.common.keys import Keys
 
 from checks.page.conftest import shots
-from checks.page.keyboard import Keyboard
 from checks.page.looked import looked
 from checks.page.site import CERTIFICATE, Site, signed, unsigned
 from checks.support.browser import Browser
@@ -18,7 +16,6 @@ FILES = ["amd64", "amd64 cloud", "amd64 rt", "arm64", "arm64 16k", "arm64 cloud"
 TITLE = "linux 6.12.118-1"
 # The first of the upload's requests; a signed one is before it.
 FIRST = 2
-WIDER = "return document.documentElement.scrollWidth - document.documentElement.clientWidth"
 
 
 @pytest.fixture
@@ -47,20 +44,20 @@ def votes(site: Site) -> list[str]:
             for request in shown]
 
 
-def opens_and_closes(browser: Browser, view: str) -> None:
-    """The row of the upload in this view: its files are shown where it is open, and not else."""
-    browser.go(view)
+def opens_and_closes(browser: Browser) -> None:
+    """The row of the upload: its files are shown where it is open, and not else."""
+    browser.go("inbox")
     browser.sees(f"{TITLE} 7 files", "1 of 2 yes, by raul", "Review 7 files", "another loader")
     assert f"{TITLE} amd64" not in browser.text(), browser.text()
-    expect(len(browser.all("tbody tr")), 2, f"rows of the view {view}")
+    expect(len(browser.all("tbody tr")), 2, "rows of the view")
     opens(browser)
-    expect(len(browser.all("tbody tr")), 9, f"rows of the open view {view}")
+    expect(len(browser.all("tbody tr")), 9, "rows of the open view")
     focus = browser.script("return document.activeElement.textContent")
     expect(focus, f"{TITLE} 7 files", "where the focus stays")
-    shots(browser, f"upload-{view}")
-    looked(browser, f"an upload in {view}")
+    shots(browser, "upload-inbox")
+    looked(browser, "an upload in the first view")
     browser.go("lists")
-    browser.go(view)
+    browser.go("inbox")
     browser.sees(f"{TITLE} amd64 cloud")
     browser.press(f"{TITLE} 7 files")
     until(20, "it is closed", lambda: len(browser.all("tbody tr")) == 2, browser.text)
@@ -71,9 +68,7 @@ def test_an_upload_is_one_row_that_opens(browser: Browser, upload: Site) -> None
     for at in range(len(FILES)):
         upload.reviews("raul", FIRST + at)
     browser.sign_in(token("rita"))
-    for view in ("inbox", "requests"):
-        opens_and_closes(browser, view)
-    browser.go("inbox")
+    opens_and_closes(browser)
     browser.sees("Waits for you 8")
     expect(browser.texts("#views a")[0], "For you 8", "the count at the link")
     opens(browser)
@@ -210,55 +205,3 @@ def test_each_vote_is_a_command_of_its_own_about_its_file(browser: Browser, uplo
     expect([text for _, text in reviews], [f"review {at} yes " for at in range(FIRST, 9)],
            "the calls")
     expect(len({key for key, _ in reviews}), 7, "the keys")
-
-
-def test_an_upload_is_reviewed_by_keyboard_alone(browser: Browser, upload: Site) -> None:
-    browser.open()
-    keys = Keyboard(browser)
-    browser.types(token("rita"), Keys.ENTER)
-    browser.sees("Waits for you 8")
-    keys.tab_to(f"{TITLE} 7 files")
-    browser.types(Keys.ENTER)
-    browser.sees(f"{TITLE} arm64 16k")
-    expect(keys.focused()["text"], f"{TITLE} 7 files", "where the focus stays")
-    browser.types(Keys.ENTER)
-    keys.tab_to("Review 7 files")
-    browser.types(Keys.ENTER)
-    browser.sees("Vote yes on 7 files")
-    expect(keys.focused()["tag"], "H1", "where the focus is in the review")
-    keys.tab_to("arm64 16k")
-    browser.types(Keys.SPACE)
-    browser.sees("Vote yes on 6 files")
-    keys.tab_to("Vote yes on 6 files")
-    browser.types(Keys.ENTER)
-    browser.asks("Vote yes on these 6 requests?")
-    browser.types(Keys.ESCAPE)
-    browser.asks_no_more()
-    assert keys.focused()["text"].startswith("Vote yes on 6"), keys.focused()
-    browser.types(Keys.ENTER)
-    browser.asks("Vote yes on these 6 requests?")
-    keys.tab_to("Vote yes")
-    browser.types(Keys.ENTER)
-    browser.sees("Your vote of yes is in on 6 files.")
-    expect(votes(upload), ["rita:yes"] * 4 + [""] + ["rita:yes"] * 2, "the votes")
-    keys.tab_to("request 9, another loader")
-
-
-@pytest.mark.parametrize("scheme", ["light", "dark"])
-def test_nothing_is_wider_than_a_narrow_window(
-    browser: Browser, upload: Site, scheme: str
-) -> None:
-    browser.sign_in(token("rita"))
-    browser.width(390, scheme)
-    for view in ("inbox", "requests"):
-        browser.go(view)
-        browser.sees(f"{TITLE} 7 files")
-        if view == "inbox":
-            opens(browser)
-        expect(browser.script(WIDER), 0, f"how much wider {view} is than the window")
-    browser.press("Review 7 files", tag="a")
-    browser.sees("Vote yes on 7 files")
-    expect(browser.script(WIDER), 0, "how much wider the review is than the window")
-    browser.press("Vote no on 7 files")
-    browser.asks("Vote no on these 7 requests?")
-    expect(browser.script(WIDER), 0, "how much wider the question is than the window")

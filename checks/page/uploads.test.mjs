@@ -4,11 +4,10 @@ import { beforeEach, test } from 'node:test';
 
 import './cases.mjs';
 import { setToken } from '../../page/desk/api.js';
-import { besides, sameCarried } from '../../page/desk/compare.js';
 import { me } from '../../page/desk/session.js';
 import { changed } from '../../page/desk/standing.js';
 import {
-    architectureIn, lastSigned, reviewWords, uploadOf, uploadsIn, waitsForVote,
+    lastSigned, reviewWords, uploadOf, uploadsIn, waitsForVote,
 } from '../../page/desk/uploads.js';
 import { forgetWaiting } from '../../page/desk/waiting.js';
 
@@ -77,14 +76,6 @@ test('what waits for the vote is another’s, open, and without one’s own', ()
     assert.deepEqual(all.filter(waitsForVote), []);
 });
 
-test('the architecture is the one that the title names', () => {
-    assert.equal(architectureIn('linux 6.12 cloud arm64 16k'), 'arm64');
-    assert.equal(architectureIn('shim 16 X64'), 'X64');
-    assert.equal(architectureIn('linux 6.12 cloud-amd64'), 'cloud-amd64');
-    assert.equal(architectureIn('linux 6.12 constructor'), '');
-    assert.equal(architectureIn('a loader'), '');
-});
-
 test('of each name the last signed one is found, and no part more is read', async () => {
     desk['/requests/from/1501'] = [
         request(1501, 'linux 6.1 amd64', 'signed'), request(1502, 'linux 6.2 amd64', 'signed'),
@@ -100,35 +91,6 @@ test('of each name the last signed one is found, and no part more is read', asyn
         [['linux amd64', 1502], ['linux arm64', 600]],
     );
     assert.deepEqual(asked, ['/requests/from/1501', '/requests/from/501']);
-});
-
-test('at most five parts are looked through; an older desk has none', async () => {
-    for (const first of [8001, 7001, 6001, 5001, 4001, 3001]) desk[`/requests/from/${first}`] = [];
-    await lastSigned([request(9000, 'linux 6.4 amd64')]);
-    assert.deepEqual(asked, [8001, 7001, 6001, 5001, 4001].map((one) => `/requests/from/${one}`));
-    [asked, desk] = [[], {}];
-    const found = await lastSigned([request(9000, 'linux 6.4 amd64')]);
-    assert.deepEqual([found.value.size, asked.length], [0, 1]);
-    assert.equal((await lastSigned([])).value.size, 0);
-});
-
-test('what changed beside the last signed image is marked, but for its size', () => {
-    const has = (components, more = {}) => ({ ...request(1, ''), components, ...more });
-    const last = has([['sbat', 1], ['grub', 3], ['old', 1]], { length: 1024 });
-    const now = has([['sbat', 1], ['grub', 4], ['new', 1]], { length: 2048, gap: 8 });
-    const rows = besides(now, last).map(({ name, now: here, before, isOther }) => (
-        [name, here, before, isOther]
-    ));
-    assert.deepEqual(rows, [
-        ['Size', '2,048 bytes', '1,024 bytes', false], ['sbat', '1', '1', false],
-        ['grub', '4', '3', true], ['old', 'none', '1', true], ['new', '1', 'none', true],
-        ['Bytes in no section', '8', '0', true],
-    ]);
-    assert.ok(besides(now, null).every(({ before, isOther }) => before === '' && !isOther));
-    assert.ok(!besides(last, last).some(({ name }) => name.startsWith('Bytes')));
-    const [ab, ba] = [{ carried: ['a', 'b'] }, { carried: ['b', 'a'] }];
-    assert.ok(sameCarried(ab, ba) && sameCarried(ba, ab));
-    assert.ok(!sameCarried({ carried: ['a'] }, { carried: [] }));
 });
 
 test('an upload is what waits of it now, at most fifty files of it', async () => {

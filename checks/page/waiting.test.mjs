@@ -4,7 +4,7 @@ import { beforeEach, test } from 'node:test';
 
 import './cases.mjs';
 import { setToken } from '../../page/desk/api.js';
-import { lately, ownProposals, times } from '../../page/desk/proposed.js';
+import { ownProposals, times } from '../../page/desk/proposed.js';
 import { me } from '../../page/desk/session.js';
 import { count, forgetWaiting, inbox, listen, look, seen } from '../../page/desk/waiting.js';
 import { ageWords, voteWords } from '../../page/formats/words.js';
@@ -66,38 +66,6 @@ test('two looks at once are one, and one behind a command begins behind it', asy
     assert.deepEqual(asked, ['/changes', '/changes']);
 });
 
-const LISTS = [
-    request(1, 'ann'), request(2, 'me'), request(3, 'ann', 'open', [vote('me')]),
-    request(4, 'ann', 'open', [vote('raul')]), request(5, 'me', 'approved'),
-    request(6, 'ann', 'approved'), request(7, 'me', 'signed'), request(8, 'ann', 'rejected'),
-];
-const OLD = [
-    ['reviewer', [1, 4], [], [2, 5]],
-    ['submitter', [], [], [2, 5]],
-    ['signer', [5, 6], [], []],
-    ['officer', [], [2], []],
-];
-
-for (const [role, requests, proposals, under] of OLD) {
-    test(`of an older desk's lists a ${role} has what waits`, async () => {
-        is(role);
-        const mine = role === 'submitter' ? LISTS.filter(({ submitter }) => submitter === 'me') : LISTS;
-        desk = {
-            '/requests': mine,
-            '/proposals': [proposal(1, 'me'), proposal(2, 'otto'), proposal(3, 'otto', 'dropped')],
-        };
-        await look();
-        const all = inbox();
-        assert.deepEqual(numbers(all.requests), requests);
-        assert.deepEqual(numbers(all.proposals), proposals);
-        assert.deepEqual(numbers(all.under), under);
-        assert.equal(count(), requests.length + proposals.length);
-        await look();
-        const list = role === 'officer' ? '/proposals' : '/requests';
-        assert.deepEqual(asked, ['/changes', list, list]);
-    });
-}
-
 // A desk of three requests of one's own, of which two changed.
 async function changes() {
     is('submitter');
@@ -122,18 +90,6 @@ test('one’s own that changed count until they are looked at; withdrawn ones do
     assert.deepEqual([numbers(inbox().changed), count()], [[1], 1]);
     seen(request(1, 'me', 'open', [vote('rita')]));
     assert.deepEqual([numbers(inbox().under), count()], [[1], 0]);
-});
-
-test('what was looked at before the desk was asked doesn’t count', async () => {
-    await changes();
-    seen(desk['/waiting'].requests[0]);
-    seen(desk['/requests/2']);
-    const approved = request(1, 'me', 'approved', [vote('rita'), vote('raul')]);
-    seen(approved);
-    desk['/changes'] = { changes: 7 };
-    desk['/waiting'] = { requests: [approved, request(4, 'me')], proposals: [] };
-    await look();
-    assert.deepEqual([numbers(inbox().under), count()], [[1, 4], 0]);
 });
 
 test('where a part doesn’t come all stays as it was, and the next look reads it', async () => {
@@ -165,31 +121,6 @@ test('when proposals were made is read of few calls, of more if need be, and of 
     assert.deepEqual((await times()).get(9), '');
     const minutes = asked.filter((path) => path.startsWith('/minutes'));
     assert.deepEqual(minutes, ['/minutes/851', '/minutes/401', '/minutes/901']);
-});
-
-test('no more of the calls is read than tells when and why proposals were made, each once', async () => {
-    is('officer');
-    const line = (number, text, reply) => `${number}\totto\t20261130T101112Z-00\t${text}\t${reply}\n`;
-    const made = (number, of) => line(number, `revoke-digest ${'ab'.repeat(32)}`, `proposed ${of}`);
-    const why = (number, of) => line(number, `explain ${of} since ${number}`, `explained ${of}`);
-    const waiting = (...of) => ({ requests: [], proposals: of.map((one) => proposal(one, 'otto')) });
-    const reasons = async (of) => ((await lately()).get(of) ?? []).map(({ text }) => text);
-    desk = { '/changes': { changes: 900 }, '/waiting': waiting(7) };
-    desk['/minutes/851'] = made(860, 7) + why(870, 7);
-    await look();
-    assert.deepEqual([[...(await times()).keys()], await reasons(7)], [[7], ['since 870']]);
-    desk['/changes'] = { changes: 990 };
-    desk['/minutes/901'] = why(930, 7) + made(940, 8);
-    await look();
-    assert.deepEqual(await reasons(7), ['since 870', 'since 930']);
-    desk['/changes'] = { changes: 991 };
-    desk['/waiting'] = waiting(6, 7, 8);
-    desk['/minutes/991'] = '';
-    desk['/minutes/492'] = made(600, 6) + made(860, 7) + why(870, 7) + why(930, 7) + made(940, 8);
-    await look();
-    assert.deepEqual([(await times()).has(6), await reasons(7)], [true, ['since 870', 'since 930']]);
-    const minutes = asked.filter((path) => path.startsWith('/minutes'));
-    assert.deepEqual(minutes, [851, 901, 991, 492].map((first) => `/minutes/${first}`));
 });
 
 test('an officer’s own open proposals are read from the oldest that was open on', async () => {
