@@ -7,8 +7,7 @@ that isn't there, a folder, a full output and a wrong word have their statuses. 
 minutes.txt: `audit` names the wrong line, and `follow` stops there, on a new desk and on one with
 some lines of its own; a read that fails; the longest name and key.
 
-minutes.txt has the records, each `WHAT: ANSWER`, the minutes, and `==` after all but the last;
-`<CR>` is a carriage return. The answer is `calls N`, or `line N` for the first wrong line."""
+minutes.txt has two days, each below its name."""
 from __future__ import annotations
 
 from pathlib import Path
@@ -46,11 +45,6 @@ def test_an_audit_tells_and_writes_what_the_desk_exports(desk: Program, path: st
         due = desk.gives(name, path)
         desk.ends(0, due, b"", "audit", OWNER, minutes, name)
         desk.ends(0, due, b"", "audit", OWNER, "-", name, given=exports["minutes"])
-
-
-def test_no_minutes_are_those_of_an_empty_desk(desk: Program) -> None:
-    empty = {"minutes": b"", "dbx": b"", "db": b"", "level": b"sbat,1,2021030218\n"}
-    desk.ends(0, told(empty), b"", "audit", OWNER, desk.file("none", b""))
 
 
 def turned(lines: list[bytes], at: int) -> dict[str, tuple[list[bytes], int]]:
@@ -101,7 +95,7 @@ def test_an_audit_has_the_statuses_of_its_words_and_devices(desk: Program, path:
     expect(desk.full("audit", OWNER, wrong).status, 1, "wrong minutes, a full output")
 
 
-# ---- the minutes of minutes.txt
+# ---- the minutes of minutes.txt, as they stand and wrong at one line
 
 
 class Record(NamedTuple):
@@ -111,19 +105,38 @@ class Record(NamedTuple):
     minutes: bytes
 
 
-def records() -> dict[str, Record]:
-    found = {}
-    text = Path(__file__).with_name("minutes.txt").read_bytes()
-    for record in text.replace(b"<CR>", b"\r").split(b"==\n"):
-        head, _, minutes = record.partition(b"\n")
-        what, _, answer = head.decode().partition(": ")
-        kind, _, number = answer.partition(" ")
-        found[what] = Record(int(number), kind == "line", minutes)
-    return found
-
-
-RECORDS = records()
-DAY, MIXED = RECORDS["the day"].minutes, RECORDS["a day by either rules"].minutes
+DAY, MIXED = (
+    part.split(b"\n", 1)[1]
+    for part in Path(__file__).with_name("minutes.txt").read_bytes().split(b"==\n")
+)
+REVOKES = b"5\tolga\tk3\trevoke-digest %s\t" % (b"b" * 64)
+# Minutes with other bytes in them, and the first line that is then wrong.
+WRONG: dict[str, tuple[bytes, bytes, bytes, int]] = {
+    "another reply": (DAY, b"\tlisted", b"\tunlisted", 3),
+    "another count": (DAY, b"confirmed 1 1", b"confirmed 1 2", 5),
+    "a number is passed over": (DAY, b"\n4\t", b"\n5\t", 4),
+    "a call is repeated": (DAY, b"\n4\tolga\tk2\trevoke", b"\n4\tolga\tk1\tlist", 4),
+    "an own proposal": (DAY, b"otto\tk1", b"olga\tk3", 5),
+    "another line break": (DAY, b"added otto\n", b"added otto\r\n", 2),
+    "no name": (DAY, b"2\tconsole", b"2\t", 2),
+    "an empty line": (DAY, b"\n4\t", b"\n\n4\t", 4),
+    "too few fields": (DAY, b"\tconfirmed 1 1 0 0 0", b"", 5),
+    "one officer's reply after a proposal": (DAY, b"5\totto\tk1\tconfirm 1\tconfirmed 1 1 0 0 0",
+                                             REVOKES + b"revoked", 5),
+    "a proposal's Confirm after one officer's reply": (DAY, b"\tproposed 1", b"\trevoked", 5),
+    "another reply of one officer": (MIXED, b"\trevoked", b"\traised", 5),
+    "another count of one officer": (MIXED, b"imported 1 0 2 3", b"imported 2 0 2 3", 7),
+    "revoked twice": (MIXED, b"raise shim 2 2024010100\traised",
+                      b"revoke-digest %s\trevoked" % (b"a" * 64), 6),
+    "one officer repeats a call": (MIXED, b"9\tolga\tk3", b"9\tolga\tk1", 9),
+    "another proposal's number": (MIXED, b"\tproposed 1", b"\tproposed 2", 9),
+}
+RECORDS = {
+    "the day": Record(5, False, DAY), "a day by either rules": Record(10, False, MIXED),
+    **{what: Record(at, True, minutes.replace(old, new, 1))
+       for what, (minutes, old, new, at) in WRONG.items()},
+    "the last line is cut": Record(5, True, DAY[:-1]),
+}
 MADE_FOR = "07070707-0707-0707-0707-070707070707"
 # The longest name, and the longest key.
 NAME, KEY = "z" * 32, "~" * 64

@@ -1,10 +1,9 @@
 """Inputs truncated at each place, and lengths that lie.
 
 On the command line: an image, a certificate table, and two rows of signature lists. Over HTTP: two
-requests truncated at each place, bodies truncated at each place in whole requests, heads at their
-limits of fields and bytes, repeated fields and malformed lengths, and bodies announced over their
-limits, of which the server keeps nothing. Each gets the due refusal, and the desk's minutes don't
-change."""
+requests truncated at each place, heads at their limits of fields and bytes, repeated fields and
+malformed lengths, and bodies announced over their limits, of which the server keeps nothing. Each
+gets the due refusal, and the desk's minutes don't change."""
 from __future__ import annotations
 
 from typing import Iterator
@@ -13,9 +12,9 @@ import pytest
 
 from checks.conftest import NewDesk
 from checks.support.images import (
-    CERTIFICATE, OWNER, PLAIN, TABLE, TBS, THREE_LISTS, changed, digest, digest_list, with_table,
+    OWNER, PLAIN, TABLE, TBS, THREE_LISTS, digest, digest_list, with_table,
 )
-from checks.support.messages import Field, got, line, ok, posted, refused, request, text, token
+from checks.support.messages import Field, got, line, refused, request, text, token
 from checks.support.program import Program
 from checks.support.says import expect, fail
 from checks.support.server import Server
@@ -76,27 +75,6 @@ def test_signature_lists_that_are_cut_are_refused_at_their_list(
         desk.ends(*wanted, "list", desk.file("lists", lists[:size]), what=f"{size} bytes: ")
 
 
-INNER = TABLE.index(bytes.fromhex("a007"))
-LYING_TABLES = {
-    "a length of an entry that is one too small": (changed(TABLE, (0, "2a")), 10),
-    "a length of an entry past the table": (changed(TABLE, (0, "31")), 9),
-    "certificates that pass their parent": (changed(TABLE, (INNER, "a008")), 10),
-    "a body of 1,073,741,823 bytes": (bytes.fromhex("0e00000000020200" "30843fffffff" "0000"), 10),
-}
-
-
-@pytest.mark.parametrize("what", LYING_TABLES)
-def test_a_length_that_lies_in_a_table_is_refused(desk: Program, what: str) -> None:
-    table, fault = LYING_TABLES[what]
-    desk.ends(1, b"", line(fault), "facts", desk.file("image", with_table(PLAIN, table)))
-
-
-@pytest.mark.parametrize("size", ("ffffffff", "1b000000", "7d000000"))
-def test_a_list_of_another_size_than_its_own_is_refused(desk: Program, size: str) -> None:
-    lists = desk.file("lists", changed(TWO_DIGESTS, (16, size)))
-    desk.ends(1, b"", line(15, 0), "list", lists)
-
-
 # ---- by HTTP
 
 FIRST = got("olga", "/level")
@@ -113,12 +91,6 @@ def path(desk: Program, new_desk: NewDesk) -> Iterator[str]:
     expect(desk.minutes(made), minutes, "the minutes at the end")
 
 
-def test_a_request_that_is_cut_is_refused_by_a_run(desk: Program, path: str) -> None:
-    for size in range(len(FIRST)):
-        wanted = refused(50) if size else b""
-        desk.answers(path, FIRST[:size], wanted, f"answer to {size} bytes")
-
-
 @pytest.mark.parametrize("given", [FIRST, SUBMISSION.given], ids=["a reading", "a submission"])
 def test_a_request_that_is_cut_is_refused_over_a_connection(
     desk: Program, path: str, given: bytes
@@ -128,28 +100,6 @@ def test_a_request_that_is_cut_is_refused_over_a_connection(
             wanted = refused(50) if size else b""
             server.answers(given[:size], wanted, f"{size} bytes of a request of {len(given)}")
         server.answers(FIRST, LEVEL, "a whole request after those that were cut")
-
-
-def test_a_body_that_is_cut_is_refused_for_what_is_in_it(desk: Program, path: str) -> None:
-    """In requests that are whole: images, imports and certificates."""
-
-    def post(name: str, route: str, body: bytes, wanted: bytes) -> None:
-        what = f"{len(body)} bytes at {route}"
-        server.answers(posted(name, "unused", route, body), wanted, what)
-
-    with Server(desk, path) as server:
-        for size in range(len(PLAIN) + 1):
-            fault = image_fault(size)
-            wanted = ok({"verdict": "not-listed"}) if fault is None else refused(fault)
-            post("ann", "/verdict", PLAIN[:size], wanted)
-        for size in range(len(THREE_LISTS)):
-            if size not in THREE_PLACES:
-                place = max(one for one in THREE_PLACES if one < size)
-                post("olga", "/imports/dbx", THREE_LISTS[:size], refused(15, place))
-        for size in range(len(CERTIFICATE)):
-            post("olga", "/db/certificates", CERTIFICATE[:size], refused(10))
-        for body in ("30843fffffff", "3084ffffffff", "3080", "30850000000005", "3005300302010100"):
-            post("olga", "/db/certificates", bytes.fromhex(body), refused(10))
 
 
 OLGA = ("Desk-Token", token("olga"))

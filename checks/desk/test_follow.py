@@ -1,15 +1,13 @@
 """`desk follow`: a desk is rebuilt from its minutes, and a standby follows new lines.
 
-Its dbx, db, level and minutes are the lost one's, byte for byte, and so are those of a migrated
-desk (examples/version-1) with calls of before and new ones. A standby follows ten new lines, and
-serves on with calls of its own. A line that is forged, left out or cut is refused at its place, and
-the lines before it stay followed; of the desk's own lines nothing is committed. A FILE that is a
+Its dbx, db, level and minutes are the lost one's, byte for byte. A standby follows ten new lines,
+and serves on with calls of its own. Where a line of the desk's own is another one nothing is
+committed; wrong lines behind them are in test_audit.py. A FILE that is a
 beginning of the desk's minutes, and the same FILE again, change nothing. Another owner, a database
 without a desk, files that aren't there, standard input, a full output."""
 from __future__ import annotations
 
 import contextlib
-import gzip
 import sqlite3
 import stat
 from pathlib import Path
@@ -19,11 +17,9 @@ import pytest
 
 from checks.support.afternoon import SEVEN, afternoon
 from checks.support.images import OWNER
-from checks.support.messages import ok, request
 from checks.support.program import Program, copy_of, told
 from checks.support.says import expect
 from checks.support.steps import confirms, lists, named, proposes
-from checks.support.tools import EXAMPLES
 
 ANOTHER_OWNER = "fa31923d-6047-40bf-81d0-e63edefcf194"
 
@@ -108,49 +104,9 @@ def test_a_standby_follows_ten_new_lines_and_goes_on_by_itself(
 # ---- lines that are wrong
 
 
-def by_nobody(line: bytes) -> bytes:
-    number, _, rest = line.split(b"\t", 2)
-    return b"\t".join((number, b"nobody", rest))
-
-
-def replied(line: bytes) -> bytes:
-    """Another reply to a call that the rules accept."""
-    return line[: line.rindex(b"\t") + 1] + b"listed x\n"
-
-
-def wrongs(lines: list[bytes], second: int) -> list[tuple[str, bytes, int]]:
-    """Minutes that are wrong at one line, and its number."""
-    found: list[tuple[str, list[bytes], int]] = []
-    count = len(lines)
-    for at in (1, 2, second - 1, second, second + 1, count):
-        one, before, after = lines[at - 1], lines[: at - 1], lines[at:]
-        found.append((f"line {at} by nobody", [*before, by_nobody(one), *after], at))
-        found.append((f"line {at}, another reply", [*before, replied(one), *after], at))
-        if after:
-            found.append((f"without line {at}", [*before, *after], at))
-        found.append((f"line {at} twice", [*before, one, one, *after], at + 1))
-    one, before, after = lines[second - 1], lines[: second - 1], lines[second:]
-    another = one.replace(b"proposed 1\n", b"proposed 2\n")
-    found.append(("another reply in its form", [*before, another, *after], second))
-    found.append(("without its line break", [*lines[:-1], lines[-1][:-1]], count))
-    return [(what, b"".join(changed), at) for what, changed, at in found]
-
-
 def proposed(lines: list[bytes]) -> int:
     """The number of the first proposal's line."""
     return next(at for at, line in enumerate(lines, 1) if line.endswith(b"proposed 1\n"))
-
-
-@pytest.mark.long(20)
-def test_a_wrong_line_is_refused_and_the_lines_before_it_stay(desk: Program, lost: Lost) -> None:
-    lines = lost.longer["minutes"].splitlines(keepends=True)
-    second = proposed(lines)
-    for number, (what, minutes, at) in enumerate(wrongs(lines, second)):
-        path, refused = desk.at(f"turned{number}.db"), b"refused 47 Minute at %d\n" % at
-        turned = desk.file("turned", minutes)
-        desk.ends(1, b"", refused, "follow", path, OWNER, turned, what=f"{what}: ")
-        before = b"".join(minutes.splitlines(keepends=True)[: at - 1])
-        expect(desk.minutes(path), before, f"{what}: the lines that were followed")
 
 
 def test_of_the_desks_own_lines_nothing_is_committed(
@@ -161,7 +117,7 @@ def test_of_the_desks_own_lines_nothing_is_committed(
     lines = lost.longer["minutes"].splitlines(keepends=True)
     count = len(lines)
     for at in (1, proposed(lines), count):
-        changed = [*lines[: at - 1], by_nobody(lines[at - 1]), *lines[at:]]
+        changed = [*lines[: at - 1], lines[at - 1][:-2] + b"~\n", *lines[at:]]
         refused = b"refused 47 Minute at %d\n" % at
         turned = desk.file("turned", b"".join(changed))
         desk.ends(1, b"", refused, "follow", standby, OWNER, turned)
@@ -193,27 +149,3 @@ def test_follow_has_the_statuses_of_its_words_and_files(desk: Program, lost: Los
     desk.ends(0, told(lost.longer), b"", "follow", empty, OWNER, longer)
     full = desk.full("follow", new, OWNER, longer)
     expect((full.status, full.err), (3, b"device 17 Write\n"), "a full output")
-
-
-def first_desk() -> bytes:
-    return gzip.decompress((EXAMPLES / "version-1" / "desk.db.gz").read_bytes())
-
-
-def test_a_migrated_desk_is_followed_from_any_line_on(desk: Program) -> None:
-    """Stopped among the lines by the first rules, and between them and the others."""
-    first = desk.file("first.db", first_desk())
-    lines = desk.minutes(first).count(10)
-    token = ("Desk-Token", "olga-token-for-the-desk")
-    for key, path, due in (
-        ("m1", "/db/digests", {"reply": "listed"}),
-        ("m2", "/dbx/digests", {"proposal": 1, "reply": "proposed"}),
-    ):
-        given = request("POST", path, [token, ("Desk-Key", key)], named(f"{98:064}"))
-        desk.answers(first, given, ok(due), path)
-    exports = desk.exports(first)
-    follows(desk, desk.at("migrated.db"), exports)
-    for count in (1, lines - 1, lines, lines + 1):
-        path = desk.at(f"part{count}.db")
-        part = b"".join(exports["minutes"].splitlines(keepends=True)[:count])
-        desk.gives("follow", path, OWNER, "-", given=part)
-        follows(desk, path, exports)

@@ -8,17 +8,13 @@ from typing import Protocol
 import pytest
 
 from checks.conftest import NewDesk
-from checks.support.fillings import level, sbat_rows
-from checks.support.images import (
-    CERTIFICATE, PLAIN, TBS, X509_KIND, authenticode, certificate_list, digest, digest_list, sha256,
-    signature_list,
-)
+from checks.support.images import CERTIFICATE, PLAIN, TBS, authenticode, digest, digest_list, sha256
 from checks.support.messages import PEOPLE, line, octets, ok, refused, text
 from checks.support.program import Program
 from checks.support.says import expect
 from checks.support.server import serves
 from checks.support.steps import (
-    again, closes, confirms, impact, lists, minutes, named, proposes, raising, reads, refuses,
+    Step, again, closes, confirms, lists, minutes, named, proposes, raising, reads, refuses,
     submits, takes,
 )
 from checks.support.tools import ran
@@ -118,45 +114,49 @@ def test_a_desk_has_100_000_requests(desk: Program, filled: Filled) -> None:
     serves(desk, path, steps, "100,000 requests", ends=False)
 
 
-def test_a_desk_has_100_000_proposals(desk: Program, filled: Filled) -> None:
-    path = filled(
-        "99999 proposals SELECT i, 'otto', 'digest', 0, 0, 'open'",
-        f"99999 proposal_items SELECT i, 0, 'digest', {BLOB}, '', 0",
-    )
-    row: dict[str, object] = {
-        "certificates": 0, "components": 0, "digests": 1, "officer": "otto", "state": "open",
-    }
-    rows = [row | {"number": number} for number in range(1, 100_000)]
-    steps = [
-        proposes("olga", "k1", "/dbx/digests", AA, 100_000),
-        refuses(36, "olga", "k2", "/dbx/digests", BB),
-        again("olga", "k1", "/dbx/digests", AA, {"proposal": 100_000, "reply": "proposed"}),
-        reads("otto", "/proposals", ok([*rows, row | {"number": 100_000, "officer": "olga"}])),
-        confirms("otto", "k1", 100_000, 1, 0, 0, 0),
-        refuses(36, "olga", "k2", "/dbx/digests", BB),
-    ]
-    serves(desk, path, steps, "100,000 proposals", ends=False)
+# What a desk has all but one of, by rows that sqlite3 makes; then the command that takes the last
+# and one that is refused, each with its key.
+LAST: dict[str, tuple[tuple[str, ...], list[Step]]] = {
+    "100,000 proposals": (
+        ("99999 proposals SELECT i, 'otto', 'digest', 0, 0, 'open'",
+         f"99999 proposal_items SELECT i, 0, 'digest', {BLOB}, '', 0"),
+        [proposes("olga", "k1", "/dbx/digests", AA, 100_000),
+         refuses(36, "olga", "k2", "/dbx/digests", BB), confirms("otto", "k1", 100_000, 1, 0, 0, 0),
+         refuses(36, "olga", "k2", "/dbx/digests", BB)],
+    ),
+    "10,000 listed entries": (
+        (f"5000 listed SELECT 'digest', {BLOB}, X''",
+         f"4999 listed SELECT 'certificate', {BLOB}, {BLOB}"),
+        [lists("olga", "k1", digest("aa")), refuses(36, "olga", "k2", "/db/digests", BB),
+         refuses(36, "olga", "k2", "/db/certificates", CERTIFICATE),
+         takes("olga", "k2", "/db/unlist", named(digest("aa"), kind="digest"),
+               {"reply": "unlisted"}),
+         takes("olga", "k3", "/db/certificates", CERTIFICATE, {"reply": "listed"})],
+    ),
+    "10,000 revoked certificates": (
+        (f"9999 revoked_certificates SELECT {BLOB}",),
+        [proposes("olga", "k1", "/dbx/certificates", AA, 1),
+         proposes("olga", "k2", "/dbx/certificates", named(TBS), 2),
+         confirms("otto", "k1", 1, 0, 1, 0, 0), reads("otto", "/proposals/2/impact", refused(36)),
+         closes(36, "confirm", "otto", "k2", 2)],
+    ),
+    "10,000 names of the level": (
+        ("9999 components SELECT printf('n%05d', i), 1",),
+        [proposes("olga", "k1", "/level", raising("x", 1, 2024010100), 1),
+         proposes("olga", "k2", "/level", raising("y", 1, 2024010101), 2),
+         proposes("olga", "k3", "/level", raising("x", 2, 2024010101), 3),
+         confirms("otto", "k1", 1, 0, 0, 1, 0), closes(36, "confirm", "otto", "k2", 2),
+         confirms("otto", "k2", 3, 0, 0, 1, 0)],
+    ),
+}
 
 
-def test_a_desk_lists_10_000_entries(desk: Program, filled: Filled) -> None:
-    path = filled(
-        f"5000 listed SELECT 'digest', {BLOB}, X''",
-        f"4999 listed SELECT 'certificate', {BLOB}, {BLOB}",
-    )
-    bodies = [bytes.fromhex(blob(number)) for number in range(1, 5_000)]
-    entries = digest_list([*(blob(number) for number in range(1, 5_001)), digest("aa")])
-    entries += b"".join(signature_list(X509_KIND, [body]) for body in bodies)
-    unlisted = named(digest("aa"), kind="digest")
-    steps = [
-        lists("olga", "k1", digest("aa")),
-        refuses(36, "olga", "k2", "/db/digests", BB),
-        refuses(36, "olga", "k2", "/db/certificates", CERTIFICATE),
-        reads("ann", "/db", octets(entries)),
-        takes("olga", "k2", "/db/unlist", unlisted, {"reply": "unlisted"}),
-        takes("olga", "k3", "/db/certificates", CERTIFICATE, {"reply": "listed"}),
-        refuses(36, "olga", "k4", "/db/digests", BB),
-    ]
-    serves(desk, path, steps, "10,000 listed entries", ends=False)
+@pytest.mark.parametrize("what", LAST)
+def test_a_desk_takes_the_last_and_refuses_one_more(
+    desk: Program, filled: Filled, what: str
+) -> None:
+    made, steps = LAST[what]
+    serves(desk, filled(*made), steps, what, ends=False)
 
 
 def test_a_desk_revokes_100_000_digests(desk: Program, filled: Filled) -> None:
@@ -165,7 +165,6 @@ def test_a_desk_revokes_100_000_digests(desk: Program, filled: Filled) -> None:
     steps = [
         proposes("olga", "k1", "/dbx/digests", AA, 1),
         proposes("olga", "k2", "/dbx/digests", BB, 2),
-        reads("otto", "/proposals/2/impact", ok(impact(2, [], len(entries), digests=1))),
         confirms("otto", "k1", 1, 1, 0, 0, 0),
         reads("otto", "/proposals/2/impact", refused(36)),
         closes(36, "confirm", "otto", "k2", 2),
@@ -173,39 +172,6 @@ def test_a_desk_revokes_100_000_digests(desk: Program, filled: Filled) -> None:
     ]
     serves(desk, path, steps, "100,000 revoked digests", ends=False)
     desk.ends(*FULL, "impact", path, "2")
-    desk.ends(0, entries, b"", "dbx", path)
-
-
-def test_a_desk_revokes_10_000_certificates(desk: Program, filled: Filled) -> None:
-    path = filled(f"9999 revoked_certificates SELECT {BLOB}")
-    entries = certificate_list([*(blob(number) for number in range(1, 10_000)), digest("aa")])
-    steps = [
-        proposes("olga", "k1", "/dbx/certificates", AA, 1),
-        proposes("olga", "k2", "/dbx/certificates", named(TBS), 2),
-        confirms("otto", "k1", 1, 0, 1, 0, 0),
-        reads("otto", "/proposals/2/impact", refused(36)),
-        closes(36, "confirm", "otto", "k2", 2),
-        reads("ann", "/dbx", octets(entries)),
-    ]
-    serves(desk, path, steps, "10,000 revoked certificates", ends=False)
-    desk.ends(0, entries, b"", "dbx", path)
-
-
-def test_a_level_has_10_000_names(desk: Program, filled: Filled) -> None:
-    path = filled("9999 components SELECT printf('n%05d', i), 1")
-    rows = [*sbat_rows(9_999), "x,1"]
-    steps = [
-        proposes("olga", "k1", "/level", raising("x", 1, 2024010100), 1),
-        proposes("olga", "k2", "/level", raising("y", 1, 2024010101), 2),
-        proposes("olga", "k3", "/level", raising("x", 2, 2024010101), 3),
-        confirms("otto", "k1", 1, 0, 0, 1, 0),
-        reads("otto", "/proposals/2/impact", refused(36)),
-        closes(36, "confirm", "otto", "k2", 2),
-        reads("ann", "/level", text(level(rows).decode())),
-        confirms("otto", "k2", 3, 0, 0, 1, 0),
-    ]
-    serves(desk, path, steps, "10,000 names", ends=False)
-    desk.ends(0, level([*rows[:-1], "x,2"], 2024010101), b"", "level", path)
 
 
 def test_a_desk_has_1_000_000_calls(desk: Program, filled: Filled) -> None:

@@ -42,12 +42,6 @@ def test_the_version_is_the_newest_of_the_change_log(desk: Program) -> None:
     expect(desk.gives("--version"), f"desk {newest[1]}\n".encode(), "the version")
 
 
-def test_the_readme_ends_with_the_kits_that_the_gate_has_passed_with() -> None:
-    last = (ROOT / "README.md").read_text(encoding="utf-8").splitlines()[-1]
-    kit = "`[^`]* logic [0-9a-f]*`"
-    assert re.fullmatch(rf"The gate has passed with {kit}(, {kit})*\.", last), last
-
-
 def test_help_has_the_subcommands_in_order(desk: Program) -> None:
     help = desk.gives("help")
     for word in ("--help", "-h"):

@@ -12,13 +12,12 @@ from typing import NamedTuple, Sequence
 import pytest
 
 from checks.conftest import NewDesk
-from checks.support.fillings import csv, level, sbat_rows
 from checks.support.images import (
     CERTIFICATE, PLAIN, STORED, X509_KIND, certificate_list, digest, digest_list, sha256,
     signature_list
 )
 from checks.support.largest import MANY, der
-from checks.support.messages import (Field, line, octets, ok, posted, refused, request, text, token)
+from checks.support.messages import Field, octets, ok, posted, refused, request, text, token
 from checks.support.program import Program
 from checks.support.server import serves
 from checks.support.steps import (
@@ -27,6 +26,19 @@ from checks.support.steps import (
 )
 
 BODY_LIMIT = 4_194_304
+
+
+def sbat_rows(count: int, generation: int = 1, length: int = 0) -> list[str]:
+    """Names and a generation, each name so long or longer."""
+    return [f"n{number:05}".ljust(length, "x") + f",{generation}" for number in range(1, count + 1)]
+
+
+def csv(rows: list[str]) -> bytes:
+    return "\n".join(["kind,value,generation", *rows, ""]).encode()
+
+
+def level(rows: list[str], stamp: int = 2024010100) -> bytes:
+    return "\n".join([f"sbat,1,{stamp}", *rows, ""]).encode()
 
 
 # ---- imports
@@ -138,17 +150,6 @@ def test_a_person_has_a_name_a_key_and_a_token_within_their_limits(
     if bad != "TOKEN":
         hashed = f"{sha256(secret.encode())}\n".encode()
         desk.ends(*due, "enrol", path, name, "officer", key, given=hashed)
-
-
-def test_numbers_ports_and_counts_of_the_command_line_have_their_limits(
-    desk: Program, new_desk: NewDesk
-) -> None:
-    path, missing = new_desk(), desk.at("missing.db")
-    desk.ends(1, b"", line(37), "impact", path, "999999")
-    desk.ends(2, b"", b"bad NUMBER\n", "impact", path, "1000000")
-    desk.ends(3, b"", b"device 45 File\n", "serve", missing, "65535", "1000000")
-    desk.ends(2, b"", b"bad PORT\n", "serve", missing, "65536", "1000000")
-    desk.ends(2, b"", b"bad COUNT\n", "serve", missing, "65535", "1000001")
 
 
 def title(length: int) -> Field:

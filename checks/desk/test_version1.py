@@ -2,24 +2,23 @@
 subcommand with DB but `init` opens it, `follow` for its owner alone; it keeps its calls and
 exports, and the next opening writes nothing. Earlier keys and revocations still count; images of
 before are in the impacts of new proposals; an audit passes its minutes, with calls of before and
-new ones. A file with the same tables and rows, made in the opposite order, has the same exports,
-and the same day at the served desk."""
+new ones."""
 from __future__ import annotations
 
 import contextlib
 import gzip
 import sqlite3
 from pathlib import Path
-from typing import Callable, Iterator
+from typing import Iterator
 
 import pytest
 
 from checks.support.images import OWNER, sha256
 from checks.support.messages import Field, ok, refused, request, text
-from checks.support.program import EXPORTS, Program, copy_of
+from checks.support.program import EXPORTS, Program
 from checks.support.says import expect
 from checks.support.server import Server
-from checks.support.steps import named, raising, vote
+from checks.support.steps import named, raising
 from checks.support.tools import EXAMPLES
 
 pytestmark = pytest.mark.needs("sqlite3")
@@ -103,35 +102,40 @@ def test_a_follow_for_another_owner_only_reads_it(desk: Program, path: str) -> N
     keeps(desk, path)
 
 
-def test_verdict_answer_impact_and_serve_open_it(desk: Program, path: str) -> None:
-    def opens(act: Callable[[str], None]) -> None:
-        copied = desk.copied(path, "opened.db")
-        act(copied)
-        keeps(desk, copied)
-
-    opens(lambda one: desk.ends(0, b"allowed\n", b"", "verdict", one, EXAMPLES / "signed.efi"))
-    opens(lambda one: desk.ends(0, b"", b"", "answer", one))
-    opens(lambda one: desk.ends(1, b"", b"refused 37 NoSuchProposal\n", "impact", one, "1"))
-
-    def serves(one: str) -> None:
-        with Server(desk, one, 1) as server:
-            server.answers(by("olga", "/level"), text(LEVEL), "the level")
-            server.ended()
-
-    opens(serves)
-
-
-@pytest.mark.parametrize("subcommand", ("person", "enrol"))
-def test_a_person_is_added_behind_the_minutes_of_before(
-    desk: Program, path: str, subcommand: str
+@pytest.mark.parametrize("words, due", (
+    (("verdict", str(EXAMPLES / "signed.efi")), (0, b"allowed\n", b"")), (("answer",), (0, b"", b"")),
+    (("impact", "1"), (1, b"", b"refused 37 NoSuchProposal\n")),
+), ids=lambda value: str(value[0]))
+def test_another_subcommand_opens_it(
+    desk: Program, opened: str, words: tuple[str, ...], due: tuple[int, bytes, bytes]
 ) -> None:
-    given = OTTO + b"\n" if subcommand == "person" else f"{sha256(OTTO)}  -\n".encode()
-    desk.ends(0, b"added otto\n", b"", subcommand, path, "otto", "officer", "k-otto", given=given)
+    desk.ends(*due, words[0], opened, *words[1:])
+
+
+def test_a_served_file_and_a_person_who_is_added_behind_the_minutes_of_before(
+    desk: Program, path: str
+) -> None:
+    desk.ends(0, b"added otto\n", b"", "person", path, "otto", "officer", "k-otto",
+              given=OTTO + b"\n")
     line = (
         f"{MINUTES.count(10) + 1}\tconsole\tk-otto\tadd-person otto officer {sha256(OTTO)}"
         "\tadded otto\n"
     )
+    with Server(desk, path, 1) as server:
+        server.answers(by("olga", "/level"), text(LEVEL), "the level")
+        server.ended()
     keeps(desk, path, line.encode())
+
+
+def test_a_file_in_which_a_name_of_version_2_is_taken_is_no_desk_and_stays(
+    desk: Program, path: str
+) -> None:
+    """In any case."""
+    with contextlib.closing(sqlite3.connect(path, isolation_level=None)) as store:
+        store.execute("CREATE TABLE Proposals (a INTEGER)")
+    before = Path(path).read_bytes()
+    desk.ends(1, b"", b"refused 43 NotADesk\n", "minutes", path)
+    expect(Path(path).read_bytes(), before, "a file that is no desk")
 
 
 def barred(rule: str, length: int) -> bytes:
@@ -163,55 +167,3 @@ def test_keys_revocations_and_images_of_before_still_count(desk: Program, path: 
     desk.ends(1, barred("dbx-certificate", 168), b"", "impact", path, "2")
     desk.ends(1, barred("sbat grub 3 4", 76), b"", "impact", path, "3")
     desk.audited(desk.exports(path))
-
-
-# ---- the same tables and rows, made in the opposite order
-
-
-def names(path: str) -> list[str]:
-    with contextlib.closing(sqlite3.connect(f"file:{path}?immutable=1", uri=True)) as store:
-        rows = store.execute("SELECT name FROM sqlite_schema WHERE type = 'table' ORDER BY rowid")
-        return [name for (name,) in rows]
-
-
-def opposite(first: str, path: str) -> str:
-    with contextlib.closing(sqlite3.connect(path, isolation_level=None)) as store:
-        store.execute("ATTACH ? AS first", (first,))
-        store.execute("PRAGMA journal_mode = WAL")
-        rows = store.execute(
-            "SELECT name, sql FROM first.sqlite_schema WHERE type = 'table' ORDER BY rowid DESC"
-        ).fetchall()
-        for name, sql in rows:
-            store.execute(sql)
-            store.execute(f"INSERT INTO main.{name} SELECT * FROM first.{name} ORDER BY rowid DESC")
-    return path
-
-
-def day(desk: Program, path: str) -> list[bytes]:
-    """A day at the served desk, each response of it, and then what the desk exports."""
-    desk.gives("person", path, "otto", "officer", "k-otto", given=OTTO + b"\n")
-    tiny, loader = (EXAMPLES / "tiny.efi").read_bytes(), ("Desk-Title", "a loader")
-    asked = [
-        by("olga", "/dbx/digests", DIGEST, "k2"), by("olga", "/dbx/digests", DIGEST, "k9"),
-        by("olga", "/dbx/digests", OTHER, "k10"),
-        by("olga", "/dbx/certificates", CERTIFICATE, "k11"), by("olga", "/level", RAISE, "k12"),
-        by("otto", "/proposals/3/impact"), by("ann", "/requests", tiny, "k2", loader),
-        by("rita", "/requests/2/review", vote("yes", "read it"), "k2"),
-        *(by("otto", f"/proposals/{one}/confirm", b"", f"k{one}") for one in (1, 2, 3)),
-        *(by("olga", f"/{one}") for one in ("requests", "proposals", "people", "report")),
-        by("olga", "/minutes/1"),
-    ]
-    with Server(desk, path, len(asked)) as server:
-        came = [server.ask(given) for given in asked]
-        server.ended()
-    expect(sum(one.startswith(b"HTTP/1.1 200 OK") for one in came), 15, "the day's responses")
-    return [*came, *desk.exports(path).values()]
-
-
-def test_tables_in_the_opposite_order_are_the_same_desk(desk: Program, path: str) -> None:
-    other = opposite(desk.copied(path, "attached.db"), desk.at("opposite.db"))
-    expect(len(names(path)), 12, "the tables")
-    expect(names(other), names(path)[::-1], "the tables in the opposite order")
-    exports = [desk.exports(copy_of(one, desk.at("copy.db"))) for one in (path, other)]
-    expect(exports[1], exports[0], "the exports of tables in the opposite order")
-    expect(day(desk, other), day(desk, path), "a day of tables in the opposite order")

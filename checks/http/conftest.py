@@ -20,8 +20,6 @@ from checks.support.tools import ran
 FILES = {"dbx": "dbx.esl", "db": "db.esl", "level": "level.csv"}
 # The most lines that GET /minutes/{no} gives.
 PART = 1_000
-# So many lines at the beginning have each command, and each slip is made in each of them.
-FIRST = 38
 # How many calls there are before the minutes are first fetched, and in all.
 BEFORE, CALLS = 1_150, 2_300
 

@@ -1,28 +1,27 @@
 """What HTTP itself refuses, and how connections begin and end.
 
-Paths, methods, fields and lengths that are refused, byte for byte; `Expect`; an image of 64 MiB;
-three clients at once; a large export with bytes after its request; a head that comes a byte a
-second; the faults of `serve` and `answer`; and that the server listens only on 127.0.0.1. Truncated
-requests are in checks/desk/test_cuts.py, days of requests in test_days.py."""
+Paths, methods, fields and lengths that are refused, byte for byte; `Expect`; a large export with
+bytes after its request; a head that comes a byte a second; the faults of `serve` and `answer`; and
+that the server listens only on 127.0.0.1. Truncated requests are in checks/desk/test_cuts.py, days
+of requests in test_days.py."""
 from __future__ import annotations
 
 import os
 import socket
 import time
-from concurrent.futures import ThreadPoolExecutor
 from typing import Iterator
 
 import pytest
 
 from checks.conftest import NewDesk
-from checks.support.images import OWNER, PLAIN, changed, digest_list
+from checks.support.images import PLAIN, digest_list
 from checks.support.largest import MANY
 from checks.support.messages import got, octets, ok, posted, refused, text
 from checks.support.program import Program
 from checks.support.refusals import REFUSED, asked, key
 from checks.support.says import expect, fail
 from checks.support.server import Server
-from checks.support.steps import confirms, proposes, submits
+from checks.support.steps import confirms, proposes
 
 LEVEL = text("sbat,1,2021030218\n")
 FIRST = got("olga", "/level")
@@ -68,23 +67,6 @@ def test_expect_changes_nothing(desk: Program, path: str) -> None:
             expect(rest(peer), NOT_LISTED, "a verdict with Expect")
         given = asked("POST", "/dbx/digests", key(), EXPECT, ("Content-Length", "5000000"))
         server.answers(given, refused(56), "a long body with Expect", ends=False)
-        server.ended()
-
-
-def test_an_image_of_64_mib_is_taken_and_its_key_has_the_reply(desk: Program, path: str) -> None:
-    image = changed(PLAIN, (344, "00feff03")).ljust(67_108_864, b"\0")
-    step = submits("ann", "k1", image, "large", 1)
-    with Server(desk, path, 2) as server:
-        for _ in range(2):
-            server.answers(step.given, step.due, "an image of 64 MiB")
-        server.ended()
-
-
-def test_three_clients_at_once_are_answered(desk: Program, path: str) -> None:
-    with Server(desk, path, 3) as server, ThreadPoolExecutor(3) as pool:
-        requests = [got(name, "/level") for name in ("ann", "rita", "olga")]
-        for answer in pool.map(server.ask, requests):
-            expect(answer, LEVEL, "one of three clients")
         server.ended()
 
 
@@ -137,11 +119,6 @@ def test_serve_refuses_a_word_that_is_no_port(desk: Program, port: str) -> None:
     desk.ends(2, b"", b"bad PORT\n", "serve", desk.at("missing.db"), port, "x")
 
 
-@pytest.mark.parametrize("count", ("0", "1000001", "x", "9" * 20, ""))
-def test_serve_refuses_a_word_that_is_no_count(desk: Program, count: str) -> None:
-    desk.ends(2, b"", b"bad COUNT\n", "serve", desk.at("missing.db"), "9999", count)
-
-
 def test_serve_and_answer_make_no_file_and_know_a_desk(desk: Program) -> None:
     missing = desk.at("missing.db")
     desk.ends(3, b"", b"device 45 File\n", "serve", missing, "9999", "1")
@@ -166,18 +143,3 @@ def test_serve_listens_at_127_0_0_1_alone_and_has_its_desk_and_port(
         server.answers(FIRST, LEVEL, "a request after another server wanted the port")
         server.ended()
     expect(desk.minutes(other), desk.minutes(path), "the other desk's minutes")
-
-
-def test_the_report_of_a_desk_with_one_person(desk: Program) -> None:
-    path = desk.at("one.db")
-    desk.gives("init", path, OWNER)
-    desk.add(path, "olga", "officer")
-    names = (
-        "people", "requests", "open", "approved", "rejected", "withdrawn", "signed",
-        "listed digests", "listed certificates", "revoked digests", "revoked certificates",
-        "level components", "commands",
-    )
-    counts = {name: int(name in ("people", "commands")) for name in names}
-    counts["stamp"] = 2021030218
-    lines = "".join(f"{name}{count:>{34 - len(name)}}\n" for name, count in counts.items())
-    desk.answers(path, got("olga", "/report"), text(lines), "the first report")

@@ -18,10 +18,10 @@ import pytest
 
 from checks.conftest import NewDesk
 from checks.support.images import PLAIN, digest, digest_list
-from checks.support.looks import ADDED
 from checks.support.days import TWO_OFFICERS
 from checks.support.messages import ok, response, said, text
 from checks.support.program import Program, Ran
+from checks.support.readings import ADDED
 from checks.support.says import expect, fail
 from checks.support.server import Server
 from checks.support.steps import (

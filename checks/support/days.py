@@ -6,12 +6,10 @@ from checks.support.images import (
     CERTIFICATE, PLAIN, SIGNED, TABLE, TBS, THREE_LISTS, X509_KIND, authenticode, certificate_list,
     changed, digest, digest_list, sha256, signature_list, with_table
 )
-from checks.support.inbox import INBOX
 from checks.support.largest import LARGEST
-from checks.support.looks import LOOKS, ODD
 from checks.support.messages import octets, ok, refused, text, token
+from checks.support.readings import ODD, READINGS
 from checks.support.reasons import REASONS
-from checks.support.searches import SEARCHES
 from checks.support.steps import (
     Step, again, closes, confirms, drops, grub, judges, lists, named, proposal, proposes, raising,
     reads, refuses, returns, reviews, shown, submits, takes, vote
@@ -66,18 +64,6 @@ RETURNS = [
     judges("ann", SIGNED, {"verdict": "dbx-certificate"}),
     refuses(30, "olga", "k4", "/dbx/certificates", named(TBS)),
     reads("ann", "/dbx", octets(certificate_list([TBS]))),
-]
-
-# The approved image is revoked before it is returned.
-REVOKED_BEFORE = [
-    *REVIEWS[:5],
-    takes("olga", "k1", "/db/certificates", CERTIFICATE, {"reply": "listed"}),
-    proposes("olga", "k2", "/dbx/digests", named(authenticode(PLAIN)), 1),
-    confirms("otto", "k1", 1, 1, 0, 0, 0),
-    refuses(28, "sid", "k1", "/requests/1/return", SIGNED),
-    refuses(28, "ann", "k2", "/requests", PLAIN, ("Desk-Title", "again")),
-    reads("ann", "/requests/1", ok(APPROVED)),
-    judges("ann", SIGNED, {"verdict": "dbx-digest"}),
 ]
 
 # An image whose length isn't a multiple of 8 may be returned as it is, or padded with zeros, which
@@ -176,15 +162,6 @@ FILES = [
     proposes("olga", "k2", "/imports/csv", CSV, 2),
     confirms("otto", "k2", 2, 0, 0, 0, 0),
     reads("ann", "/level", text("sbat,1,2024010100\ngrub,3\n"))
-]
-
-# A level that raises nothing is taken whatever its stamp is.
-RAISES_NOTHING = [
-    proposes("olga", "k1", "/level", raising("grub", 2, 2024010100), 1),
-    confirms("otto", "k1", 1, 0, 0, 1, 0),
-    proposes("olga", "k2", "/imports/level", b"sbat,1,2024010100\ngrub,2\n", 2),
-    confirms("otto", "k2", 2, 0, 0, 0, 0),
-    reads("ann", "/level", text("sbat,1,2024010100\ngrub,2\n")),
 ]
 
 # One officer proposes, and another one confirms.
@@ -287,10 +264,8 @@ FIRST_REQUESTS = [
 
 # By name. Each begins on a desk of the people alone.
 DAYS = {
-    "reviews": REVIEWS, "returns": RETURNS, "revoked before": REVOKED_BEFORE, "padding": PADDING,
-    "levels": LEVELS, "keys": KEYS, "lists": LISTS, "files": FILES,
-    "raises nothing": RAISES_NOTHING, "two officers": TWO_OFFICERS,
-    "two proposals": TWO_PROPOSALS, "reasons": REASONS, "left over": LEFT_OVER, "looks": LOOKS,
-    "tags": TAGS, "inbox": INBOX, "searches": SEARCHES, "first requests": FIRST_REQUESTS,
-    "the largest": LARGEST,
+    "reviews": REVIEWS, "returns": RETURNS, "padding": PADDING,
+    "levels": LEVELS, "keys": KEYS, "lists": LISTS, "files": FILES, "two officers": TWO_OFFICERS,
+    "two proposals": TWO_PROPOSALS, "reasons": REASONS, "left over": LEFT_OVER,
+    "readings": READINGS, "tags": TAGS, "first requests": FIRST_REQUESTS, "the largest": LARGEST,
 }
