@@ -103,6 +103,7 @@ def reads(office: Office, people: Mapping[str, Person]) -> None:
     expect(states, ["confirmed", "dropped", *["confirmed"] * 4, "dropped"], "proposals")
     expect(len(olga.json("proposals --state dropped")), 2, "proposals --state")
     olga.does("report", "revoked digests")
+    expect(olga.json("me"), {"name": "olga", "role": "officer"}, "me as JSON")
     olga.does("pending")
 
 
@@ -168,12 +169,6 @@ def test_a_day_behind_nginx_has_the_same(
 def without_tokens(proxied: Nginx) -> None:
     for log in proxied.room.glob("*.log"):
         assert token("") not in log.read_text(), f"a token stands in nginx's {log.name}"
-
-
-def test_a_word_too_many_is_named(office: Office) -> None:
-    olga = office["olga"]
-    olga.ends(2, "requests --colour", "requests has no option --colour")
-    olga.ends(2, "report 7", "report takes fewer words: 7 is too much")
 
 
 @pytest.mark.needs("nginx", "openssl")

@@ -1,19 +1,17 @@
 """Proposals shown whole, and their impact: by the desk, and by a proxy that answers as a desk does
-where the desk can't be brought to it. A Confirm is bound to what was shown. A desk without these
-routes is told of in words."""
+where the desk can't be brought to it. A Confirm is bound to what was shown."""
 from __future__ import annotations
 
 from typing import Any
 
 import pytest
 
-from checks.support.between import OLDER, Between, answer, shown
+from checks.support.between import Between, answer, shown
 from checks.support.client_day import ODD, SIGNED, TBS, TODAY
 from checks.support.deskctl import NO_TERMINAL, Office, Person
 from checks.support.images import PLAIN, authenticode, digest, sha256, with_table, with_text
-from checks.support.messages import PEOPLE, refused, said
+from checks.support.messages import PEOPLE, said
 from checks.support.says import expect
-from checks.support.steps import shown as request
 from checks.support.steps import tag_of
 
 PROPOSAL: dict[str, Any] = {
@@ -43,49 +41,12 @@ def expected(value: Any) -> str:
                   value["passed"])
 
 
-def test_a_desk_without_the_routes_is_told_of(office: Office, between: Between) -> None:
-    """A Confirm then asks for the count of entries."""
-    otto = office["otto"].at(between.url)
-    between.shows = {path: refused(53) for path in (PATH, IMPACT_PATH, "/people", "/minutes/1")}
-    line = f"revoke --digest {digest('41')} --digest {digest('42')}"
-    office["olga"].does(line, "proposal 1")
-    counts = "proposal 1 of olga: open; 2 digests, 0 certificates, 0 components"
-    otto.ends(1, "proposal 1", "doesn't show what a proposal names", out=[counts])
-    otto.ends(1, "proposal 1 --json", "refused 53 NoRoute")
-    otto.ends(2, "confirm 1", "2 digests", "doesn't show what a proposal names", "no terminal")
-    otto.ends(2, "confirm 1 --bars 0 --yes", "--bars can't be compared")
-    otto.ends(2, f"confirm 1 --expect {digest('00')} --yes", "--expect can't be compared")
-    for typed, status in (("1", 2), ("2", 0)):
-        ended, found = otto.asked("confirm 1", typed)
-        assert ended == status and "how many entries it has" in found, found
-        assert ("proposal 1 confirmed" in found) == (status == 0), found
-    for line in ("people", "minutes", "minutes --into older.minutes"):
-        otto.ends(1, line, "refused 53 NoRoute", "older than deskctl", "desk minutes")
-
-
 @pytest.fixture
 def otto(office: Office, between: Between) -> Person:
     """otto at a proxy, which shows PROPOSAL and IMPACT; the desk's own proposal 1 is another."""
     office["olga"].does("import lists.esl")
     between.shows = {PATH: shown(PROPOSAL), IMPACT_PATH: shown(IMPACT)}
     return office["otto"].at(between.url)
-
-
-@pytest.mark.parametrize("name, asked, says", [
-    ("shim", [], ""), ("grub", ["/requests/from/1"], ""),
-    ("grubb", ["/requests/from/1", "/requests/from/2"], "has a component grubb. Is it spelt"),
-])
-def test_requests_are_read_for_a_name_that_the_level_hasnt_until_one_has_it(
-    otto: Person, between: Between, name: str, asked: list[str], says: str
-) -> None:
-    one = dict(request(1, "ann", "a loader", "open", []), components=[["grub", 2]])
-    between.shows[PATH] = shown({**PLAINER, "certificates": [], "components": [[name, 3]],
-                                 "digests": [], "stamp": int(f"{TODAY}01")})
-    between.shows["/level"] = answer(200, b"sbat,1,2026010100\nshim,2\n", "text/plain")
-    between.shows |= {"/requests/from/1": shown([one]), "/requests/from/2": shown([])}
-    said_ = otto.does("proposal 1", says)
-    assert ("spelt" in said_) == bool(says), said_
-    expect(between.asked("/requests"), asked, "the parts")
 
 
 RETURNED = with_table(PLAIN, SIGNED[len(PLAIN):] * 2)
@@ -109,12 +70,9 @@ def signed(office: Office) -> Office:
     return office
 
 
-@pytest.mark.parametrize("older", [None, *OLDER])
 def test_a_confirm_of_digests_asks_for_their_requests_alone(
-    signed: Office, between: Between, older: str | None
+    signed: Office, between: Between
 ) -> None:
-    """An older desk's list is read, and tells the same."""
-    between.older = OLDER.get(older or "")
     otto = signed["otto"].at(between.url)
     otto.does("confirm 1 --yes", "confirmed: 4 new digests, 1 new certificate", err=[
         f"! {sha256(ODD)} is the SHA-256 of the whole file of request 1 (open, odd)",
@@ -124,20 +82,7 @@ def test_a_confirm_of_digests_asks_for_their_requests_alone(
     ])
     names = sorted([sha256(ODD), authenticode(ODD), sha256(RETURNED), TBS])
     due = [f"/requests/with/{name}" for name in names]
-    parts = ["/requests/from/1", "/requests/from/3"]
-    expect(between.asked("/requests"), due[:1] + parts if older else due, "what was asked for")
-
-
-def test_the_doubts_of_a_proposal_fit_a_terminal(signed: Office) -> None:
-    """There they are lines of whole words; elsewhere each is one line."""
-    otto = signed["otto"]
-    status, text = otto.asked("proposal 1", size=(24, 80))
-    doubts = text[text.index("! "):].splitlines()
-    assert status == 0 and max(map(len, doubts)) <= 80, text
-    said_there = " ".join(line.strip() for line in doubts)
-    one = f"! {TBS} is a certificate, which the image of request 2 (signed, shim) carries"
-    assert one in said_there, text
-    otto.does("proposal 1", one)
+    expect(between.asked("/requests"), due, "what was asked for")
 
 
 def no_confirm(between: Between) -> None:

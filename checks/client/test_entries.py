@@ -6,9 +6,9 @@ import pytest
 
 from checks.support.cases import files
 from checks.support.certificates import self_signed
-from checks.support.client_day import SIGNED, TBS, TODAY
+from checks.support.client_day import SIGNED, TBS
 from checks.support.deskctl import NO_TERMINAL, Office
-from checks.support.images import authenticode, digest, digest_list, sha256
+from checks.support.images import authenticode, digest, sha256
 from checks.support.tools import ran
 
 
@@ -38,37 +38,6 @@ def real(office: Office) -> Real:
 
 WHOLE, SIGNER = sha256(SIGNED), "O=A distribution, CN=Boot signer"
 IS_WHOLE = "the SHA-256 of the whole file"
-
-
-@pytest.mark.needs("openssl")
-def test_an_entry_of_another_kind_is_asked_about(office: Office, real: Real) -> None:
-    """A whole file's hash, a fingerprint, a digest as a certificate, a certificate as a digest."""
-    doubts = {
-        f"revoke --digest {WHOLE}":
-            f"{WHOLE} is the SHA-256 of the whole file of request 1 (open, grub 2.12)",
-        f"list-digest {WHOLE}": IS_WHOLE,
-        f"revoke --certificate {real.fingerprint}":
-            f"the fingerprint of the listed certificate {SIGNER}. It bars nothing",
-        f"revoke --digest {real.fingerprint}":
-            f"the SHA-256 of its TBSCertificate is {real.tbs}",
-        f"revoke --digest {real.tbs}":
-            f"is the listed certificate {SIGNER}, and no image's digest",
-        f"revoke --digest {TBS}":
-            "is a certificate, which the image of request 1 (open, grub 2.12) carries",
-        f"revoke --certificate {authenticode(SIGNED)}": "is the digest of the image of request 1",
-        f"revoke --digest {digest('99')} --digest {WHOLE}": IS_WHOLE,
-    }
-    for line, text in doubts.items():
-        office.refuses("olga", line, text, NO_TERMINAL, "--yes")
-    office.refuses("olga", f"revoke --certificate {real.colons}", "has signs between its digits",
-                   "fingerprint")
-    office["olga"].does("import lists.esl", "proposal 1")
-    office["otto"].does("confirm 1 --yes")
-    office.refuses_all(
-        (f"olga revoke --certificate {digest('aa')}",
-         "is an image's digest in dbx, and no certificate"),
-        (f"olga revoke --digest {digest('bb')}", "is a certificate in dbx, and no image's digest"),
-    )
 
 
 @pytest.mark.needs("openssl")
@@ -127,35 +96,6 @@ def test_an_unlisting_says_what_it_costs_and_wants_the_name_typed(office: Office
     office["olga"].does(f"unlist digest {digest('77')}", "unlisted")
 
 
-STAMP = f"--stamp {TODAY}01"
-
-
-def test_a_generation_or_a_stamp_that_is_a_slip_is_asked_about(office: Office) -> None:
-    office.file("typo.csv", b"kind,value,generation\nsbat,shim,70000\n")
-    office.refuses_all(
-        (f"olga raise shim 4294967295 {STAMP}", "no generation above 65,535 has a meaning"),
-        (f"olga raise shim 10 {STAMP}", "shim rises from none to 10"),
-        ("olga raise shim 4 --stamp 9999999999", "doesn't begin with a date"),
-        ("olga raise shim 4 --stamp 2019010101", "more than a year ago"),
-        ("olga raise shim 4 --stamp 2099010101", "more than a year ahead"),
-        ("olga raise shim 4 --stamp 2026-11-27",
-         "a stamp is ten digits, YYYYMMDDNN: 2026112701?"),
-        ("olga raise shim 4 --stamp 20261127", "a stamp is ten digits"),
-        (f"olga raise shim 0 {STAMP}", "no generation"),
-        (f"olga raise sh,im 1 {STAMP}", "no component's name"),
-        ("olga raise shim 4", "missing: --stamp"),
-        (f"olga raise sbat 2 {STAMP}", "sbat itself stays at 1"),
-        (f"olga raise sbat 2 {STAMP} --yes", "refused 31 NotHigher",
-         "Now: sbat none, stamp 2021030218"),
-        (f"olga raise gurb 4 {STAMP}",
-         "Neither the level nor a known image has a component gurb. Is it spelt right?"),
-        (f"olga import typo.csv {STAMP}", "no generation above 65,535"),
-        ("olga import revoked.csv --yes", "refused 32 StampNotLater", "needs --stamp"),
-    )
-    status, said = office["olga"].asked("raise shim 4294967295 --stamp 9999999999", "n")
-    assert status == 2 and "65,535" in said and "doesn't begin with a date" in said, said
-
-
 def test_a_certificate_is_shown_before_it_is_listed(office: Office) -> None:
     """One officer alone lists it."""
     names = ["subject     O=A distribution, CN=Boot signer 2026",
@@ -173,28 +113,3 @@ def test_a_certificate_is_shown_before_it_is_listed(office: Office) -> None:
         ended, said = office["olga"].asked(line, typed)
         assert ended == status and all(text in said for text in [*names, asked]), said
         assert (f"certificate {TBS} listed" in said) == (status == 0), said
-
-
-def test_what_is_no_certificate_names_nothing_anywhere(office: Office) -> None:
-    office.file("long.der", b"\x30\x83\x01\x00\x00" + bytes(65_536))
-    request = next(one for one in files("certificates")
-                   if one["name"] == "a certificate request in DER")
-    office.file("request.der", request["bytes"])
-    office.refuses_all(
-        ("olga list-certificate long.der --yes",
-                 "has 65,541 bytes, and a certificate at most 65,536"),
-        *((f"olga {words} request.der", "is no certificate in PEM or DER",
-           "a request, a key, a CRL and a bundle")
-          for words in ("revoke --certificate", "unlist certificate", "list-certificate")),
-    )
-
-
-def test_a_confirm_asks_for_a_number_and_only_that_goes_on(office: Office) -> None:
-    office.file("three.esl", digest_list([digest("31"), digest("32"), digest("33")]))
-    office["olga"].does("import three.esl", "proposal 1")
-    office.refuses("otto", "confirm 1", NO_TERMINAL)
-    for typed, status in (("yes", 2), ("7", 2), ("0", 0)):
-        ended, said = office["otto"].asked("confirm 1", typed)
-        assert ended == status and f"At {office.url} nothing takes it back" in said, said
-        assert ("confirmed: 3 new digests" in said) == (status == 0), said
-    office.refuses("olga", "import three.esl", "Nothing in it is new")

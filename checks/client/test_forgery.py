@@ -118,21 +118,3 @@ def test_deskctl_asks_before_the_forgery_is_returned(office: Office, makers: Mak
     returned = sha256((makers.room / "good.efi").read_bytes())
     said = types(office, "sid", "request 1")
     assert f"returned    {returned}\nverdict     The desk allowed the returned file" in said, said
-
-
-def test_a_barred_request_says_so_and_a_yes_on_it_asks(office: Office, makers: Makers) -> None:
-    types(office, "ann", "submit image.efi --title 'a loader'")
-    digest = re.search("(?m)^digest +([0-9a-f]{64})$", shown := types(office, "ann", "request 1"))
-    assert digest and "today" not in shown
-    types(office, "olga", f"revoke --digest {digest[1]} --yes")
-    tag = re.search("expect +([0-9a-f]{64})", types(office, "otto", "proposal 1"))
-    assert tag
-    types(office, "otto", f"confirm 1 --expect {tag[1]} --bars 1")
-    assert "today       barred: its digest is revoked\n" in types(office, "rita", "request 1")
-    said = types(office, "rita", "review 1 yes", 2)
-    assert "It is barred today: its digest is revoked." in said and "nothing was sent" in said
-    types(office, "rita", "review 1 yes --yes")
-    assert "is barred, its digest is revoked" in types(office, "raul", "watch --once")
-    types(office, "raul", "review 1 yes --yes")
-    for name in ("ann", "sid"):
-        assert "is barred, its digest is revoked" in types(office, name, "watch --once")

@@ -14,7 +14,7 @@ from checks.support.deskctl import Office
 from checks.support.dripping import WAYS, dripping
 from checks.support.images import PLAIN, sha256
 from checks.support.messages import got
-from kovelamiru import http, reader
+from kovelamiru import http
 from kovelamiru.desk import objects
 from kovelamiru.faults import NoAnswer, Stop
 from kovelamiru.terminal import Terminal
@@ -61,18 +61,6 @@ def test_an_answer_of_a_great_depth_isnt_a_desks(
         with pytest.raises(Stop) as fault:
             read(found)
         assert str(fault.value).startswith("the answer isn't a desk's: ")
-
-
-def test_a_machine_tells_a_fault_in_words_and_no_page(monkeypatch: pytest.MonkeyPatch) -> None:
-    monkeypatch.setattr("time.sleep", lambda _: None)
-    desk = reader.Reader.__new__(reader.Reader)
-    for status, says in ((502, "502, the proxy doesn't reach the desk"), (403, "403, Forbidden"),
-                         (400, "400, the proxy takes no such certificate, ")):
-        found = http.Answer(status, "text/html", io.BytesIO(b"<html>\r\n<h1>nginx</h1>\r\n"))
-        monkeypatch.setattr(desk, "once", lambda _, found=found: found)
-        with pytest.raises(Stop) as fault:
-            desk.get("/level")
-        assert str(fault.value).startswith(f"GET /level: {says}") and "<" not in str(fault.value)
 
 
 # ---- what would move a terminal's cursor

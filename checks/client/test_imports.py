@@ -1,5 +1,5 @@
-"""Each kind of a file of revocations, made by efitools where it can and by bytes of our own
-otherwise; cut at each length of its header; more entries than an import may have."""
+"""What efitools writes is imported, and the lists of some architectures; files cut at each length;
+more entries than an import may have. Each kind of a file is in test_cases.py."""
 from __future__ import annotations
 
 import json
@@ -14,112 +14,24 @@ from checks.support.cases import files
 from checks.support.certificates import RSA, self_signed
 from checks.support.client_day import TODAY
 from checks.support.deskctl import Office, Person
-from checks.support.images import (
-    CERTIFICATE, OWNER, STORED, THREE_LISTS, X509_KIND, digest, digest_list, sha256, signature_list
-)
+from checks.support.images import digest, digest_list
 from checks.support.says import expect
 from checks.support.tools import ran
-from checks.support.wire import TYPES
 from kovelamiru.faults import WORDS, Stop
 from kovelamiru.pem import certificate_of
 from kovelamiru.revocations import revocations_of
 
-MICROSOFT = bytes.fromhex("bd9afa775903324dbd6028f4e78f784b")
-VERSIONS_OWNER = bytes.fromhex("6c2b139dd5598843ab1c185cfcb2eb92")
-VERSION = "01612b139dd5598843ab1c185c3cb2eb92000007000000000000000000000000"
 PKCS7 = bytes.fromhex("9dd2af4adf68ee498aa9347d375665a7")
 ATTRIBUTES = b"\x27\0\0\0"
 ONE, TWO = digest("c1"), digest("c2")
 LISTS = digest_list([ONE, TWO])
 
 
-def of_owner(lists: bytes, owner: bytes) -> bytes:
-    return lists.replace(STORED, owner)
-
-
-def update(lists: bytes, signature: bytes = b"P" * 90, kind: bytes = PKCS7, size: int = 0) -> bytes:
+def update(lists: bytes) -> bytes:
     """An authenticated update, as UEFI 2.10 has it in section 8.2.6."""
     when = struct.pack("<HBBBBBBIhBB", 2024, 5, 6, 7, 8, 9, 0, 0, 0, 0, 0)
-    head = struct.pack("<IHH", size or 24 + len(signature), 0x0200, 0x0EF1)
-    return when + head + kind + signature + lists
-
-
-def image(byte: str, **more: str) -> dict[str, str]:
-    return {"authenticodeHash": digest(byte).upper(), "hashType": "SHA256",
-            "description": "a loader", "companyName": "A vendor", **more}
-
-
-PUBLISHED = json.dumps({
-    "images": {
-        "x64": [image("a1", flatHash=digest("f1").upper()), image("a2"),
-                {"authenticodeHash": "", "flatHash": digest("f2").upper()}],
-        "arm64": [image("a3"), image("a1"), {"authenticodeHash": VERSION.upper()}],
-    },
-    "certificates": [{"subjectName": "A CA", "thumbprint": "ab" * 20}],
-    "svns": [{"value": VERSION}],
-}).encode()
-TABLE = (
-    "SHA 256 FLAT,PE256 Authenticode,Filename,Architecture\n"
-    f"{digest('f1').upper()},{digest('a1').upper()},a.efi,x64\n"
-    f"{digest('f2').upper()},,b.efi,x64\n,{digest('a3').upper()},c.efi,arm64\n"
-).encode()
-BOTH = f"import 0 0 {ONE},{TWO} - -"
-A1, A2, A3 = (digest(f"a{number}") for number in "123")
-# What a file has, its text in the minutes, and what is said of it.
-KINDS: dict[str, tuple[bytes, str, list[str]]] = {
-    "a.esl": (of_owner(LISTS, MICROSOFT), BOTH, [
-        "a.esl: signature lists", "digests       2, 2 new",
-        "(Microsoft): 2; the desk writes its own owner"]),
-    "a.auth": (update(LISTS), BOTH, [
-        "an authenticated update (EFI_VARIABLE_AUTHENTICATION_2) of 2024-05-06 07:08:09; its"
-        " signature isn't verified"]),
-    "a.var": (ATTRIBUTES + LISTS, BOTH, ["as efivarfs gives it, attributes 0x27"]),
-    "a.both": (ATTRIBUTES + update(LISTS), BOTH, [
-        "attributes 0x27, then an authenticated update"]),
-    "b.esl": (THREE_LISTS, f"import 0 1 {digest('aa')} {digest('bb')} -", [
-        "1 certificate with a time of revocation: the desk revokes it whenever it signed"
-        ' ("always")', "skipped       1"]),
-    "sha1.esl": (LISTS + signature_list(TYPES["sha1"], [bytes(20)] * 3),
-                 f"import 0 3 {ONE},{TWO} - -", ["skipped       3 sha1"]),
-    "x509.esl": (
-        LISTS + signature_list(X509_KIND, [CERTIFICATE]) + signature_list(X509_KIND, [b"spoiled"]),
-        f"import 0 1 {ONE},{TWO} {sha256(CERTIFICATE[2:])} -",
-        ["certificates  1, 1 new", "skipped       1 x509 that isn't one certificate"]),
-    "versions.esl": (LISTS + of_owner(digest_list([VERSION, digest("c3")]), VERSIONS_OWNER), BOTH, [
-        "left out      2 versions of Windows' boot programs (SVN)"]),
-    "version.esl": (of_owner(digest_list([ONE, VERSION]), MICROSOFT), f"import 0 0 {ONE} - -", [
-        "left out      1 versions"]),
-    "dbx.json": (PUBLISHED, f"import 0 0 {A1},{A2},{A3} - -", [
-        "Microsoft's dbx_info_msft (JSON)", "left out      2 flat hashes",
-        "left out      2 versions", "left out      1 certificates", "arm64, x64"]),
-    "dbx.csv": (TABLE, f"import 0 0 {A1},{A3} - -", [
-        "Microsoft's dbx_info (CSV)", "left out      2 flat hashes"]),
-    "own.csv": (b"\xef\xbb\xbfkind,value,generation\r\nsha256," + ONE.encode() + b",\r\n",
-                f"import 0 0 {ONE} - -", ["the desk's CSV"]),
-    "level": (f"sbat,1,{TODAY}07\ngrub,3\ngrub,2\n".encode(), f"import {TODAY}07 0 - - 3:grub", [
-        "a level's text (SBAT)", "components    1, 1 new",
-        f"level         Stamp {TODAY}07; the desk's is 2021030218."]),
-    "dbx.json --arch aarch64": (PUBLISHED, f"import 0 0 {A3},{A1} - -", [
-        "taken: arm64", "left out      3 images of other architectures"]),
-    "dbx.csv --arch amd64": (TABLE, f"import 0 0 {A1} - -", ["taken: x64"]),
-}
-
-
-def takes(office: Office, words: str, data: bytes, text: str, says: list[str]) -> None:
-    """The file is said to be that, first without being sent; then it becomes a proposal of this
-    text."""
-    olga, before = office["olga"], office.report()
-    office.file(words.split()[0], data)
-    olga.does(f"import {words} --dry-run", *says, err=["Nothing was sent"])
-    expect(office.report(), before, "the desk after --dry-run")
-    # (that no image has its components is asked about)
-    olga.does(f"import {words}" + " --yes" * (":" in text), err=says)
-    expect(office.calls()[-1][3], text, "the text in the minutes")
-
-
-@pytest.mark.parametrize("words", KINDS)
-def test_a_file_is_told_and_proposed(office: Office, words: str) -> None:
-    takes(office, words, *KINDS[words])
+    head = struct.pack("<IHH", 24 + 90, 0x0200, 0x0EF1)
+    return when + head + PKCS7 + b"P" * 90 + lists
 
 
 @pytest.mark.needs("openssl", "cert-to-efi-sig-list", "sign-efi-sig-list")
@@ -136,55 +48,21 @@ def test_what_efitools_writes_is_told_and_proposed(office: Office) -> None:
         "tools.esl", "tools.auth", cwd=room)
     signed = (room / "tools.auth").read_bytes()
     tbs = certificate_of(str(room / "kek.der")).tbs
-    takes(office, "tools.auth", signed, f"import 0 0 {digest('e1')} {tbs} -", [
+    office.file("tools.auth", signed)
+    office["olga"].does("import tools.auth", err=[
         "an authenticated update", "of 2026-11-27", "certificates  1", "digests       1"])
+    expect(office.calls()[-1][3], f"import 0 0 {digest('e1')} {tbs} -", "the text in the minutes")
     office.file("cut.auth", signed[: signed.index(lists[:16]) + 20])
     office.refuses("olga", "import cut.auth", "a signature list is cut")
 
 
-def test_the_desks_own_owner_isnt_said_to_be_replaced(office: Office) -> None:
-    """It is known once dbx has entries. An import in which nothing is new isn't sent."""
-    olga = office["olga"]
-    office.file("a.esl", KINDS["a.esl"][0])
-    olga.does("import a.esl --yes")
-    office["otto"].does("confirm 1 --yes")
-    mixed = digest_list([digest("c4")]) + of_owner(digest_list([digest("c5")]), MICROSOFT)
-    office.file("mixed.esl", mixed)
-    olga.does("import mixed.esl --dry-run", f"{OWNER}: 1; the desk's own",
-              "(Microsoft): 1; the desk writes its own owner in its place")
-    said = office.refuses("olga", "import a.esl", "no terminal to ask at",
-                          "Nothing in it is new: a Confirm would change nothing")
-    expect(said, "", "what is printed")
-
-
-REFUSED: dict[str, tuple[bytes, int, list[str]]] = {
-    "none": (b"hello", 2, ["no file of revocations"]),
-    "none.efi": (b"MZ" + bytes(200), 2, ["it is an image"]),
-    "none.pem": (b"-----BEGIN CERTIFICATE-----\n", 2, ["PEM"]),
-    "none.json": (b'{"images":{}}', 2, ["no images with an authenticodeHash"]),
-    "cut.json": (PUBLISHED[:-1], 2, ["cut or spoiled"]),
-    "deep.json": (b"[" * 100_000, 2, ["cut or spoiled"]),
-    "bad.csv": (b"kind,value,generation\nsha256,12,\n", 1, [
-        "refused 19 CsvRow at 1", "Record 1: sha256,12,"]),
-    "cut.csv": (b"kind,value,gener\nsha256,", 1, [
-        "refused 19 CsvRow at 0", "Record 0: kind,value,gener"]),
-    "none.csv": (b"kind,value,generation\n", 2, ["names nothing that the desk takes"]),
-    "none.level": (f"sbat,1,{TODAY}07".encode(), 2, ["names nothing that the desk takes"]),
-    "bad.level": (b"sbat,1,2024010100\ngrub\n", 1, ["refused 12 SbatRow at 2", "Line 2: grub"]),
-    "no.esl": (ATTRIBUTES, 2, ["names nothing"]),
-    "guid.auth": (update(LISTS, kind=bytes(16)), 2, ["no WIN_CERTIFICATE_UEFI_GUID"]),
-    "short.auth": (update(b"", size=23), 2, ["23 bytes"]),
-    "long.auth": (update(b"", size=24 + 91), 2, ["115 bytes, and 114 are left"]),
-    "c.esl --stamp " + TODAY + "01": (LISTS, 2, ["--stamp is for a CSV that raises"]),
-    "c.esl --arch x64": (LISTS, 2, ["--arch is for lists with architectures"]),
-    "dbx.json --arch riscv64": (PUBLISHED, 2, ["It has: arm64, x64"]),
-}
-
-
-def test_what_is_none_of_these_or_wrong_in_one_isnt_sent(office: Office) -> None:
-    for words, (data, status, texts) in REFUSED.items():
-        office.file(words.split()[0], data)
-        office.refuses("olga", f"import {words}", *texts, status=status)
+def test_images_of_an_architecture_are_taken_alone(office: Office) -> None:
+    one, other = ({"authenticodeHash": digest(byte), "hashType": "SHA256"} for byte in ("a1", "a3"))
+    office.file("dbx.json", json.dumps({"images": {"x64": [one], "arm64": [other]}}).encode())
+    office["olga"].does("import dbx.json --arch aarch64", err=[
+        "taken: arm64", "left out      1 images of other architectures"])
+    expect(office.calls()[-1][3], f"import 0 0 {digest('a3')} - -", "the text in the minutes")
+    office.refuses("olga", "import dbx.json --arch riscv64", "It has: arm64, x64")
 
 
 def test_dry_run_needs_no_desk(office: Office) -> None:
@@ -223,17 +101,6 @@ def test_a_cut_file_is_refused_in_words(name: str, tmp_path: Path) -> None:
     for length in range(len(data)):
         found = read_cut(tmp_path / "cut", data[:length])
         expect(found, 0 if length in whole else None, f"cut at {length} of {len(data)}")
-
-
-@pytest.mark.parametrize("name", ["own.csv", "level", "dbx.csv", "dbx.json"])
-def test_a_text_cut_within_its_first_line_names_nothing(name: str, tmp_path: Path) -> None:
-    """JSON is whole, or it isn't read."""
-    data: bytes = KINDS[name][0]
-    assert read_cut(tmp_path / "cut", data)
-    whole = data.startswith(b"{")
-    for length in range(len(data) if whole else data.index(b"\n") + 1):
-        found = read_cut(tmp_path / "cut", data[:length])
-        assert not found and (found is None or not whole), f"cut at {length}: {found} entries"
 
 
 def test_a_cut_certificate_is_refused_in_words(tmp_path: Path) -> None:

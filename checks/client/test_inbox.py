@@ -1,8 +1,6 @@
-"""deskctl inbox: what waits for each role, and one's own under way, by a desk that tells it and by
-an older one."""
+"""deskctl inbox: what waits for each role, and one's own under way."""
 from __future__ import annotations
 
-import datetime
 
 import pytest
 
@@ -10,11 +8,9 @@ from checks.support.between import Between, shown
 from checks.support.client_day import BOTH, ODD
 from checks.support.deskctl import Office
 from checks.support.images import PLAIN, authenticode, digest
-from checks.support.messages import posted, refused
+from checks.support.messages import posted
 from checks.support.says import expect
 from checks.support.steps import named, vote
-from kovelamiru.journal import now
-from kovelamiru.waiting import age
 
 # What each sees once rita has agreed to ann's first request, and one of raul's own is open. The
 # image of the second one is barred.
@@ -59,12 +55,8 @@ def seen(office: Office, name: str, line: str = "inbox") -> list[str]:
     return [one.replace("\t", " ", 3).replace("\t", "|") for one in lines]
 
 
-@pytest.mark.parametrize("older", [False, True])
-def test_each_role_sees_what_waits_for_it(filled: Office, between: Between, older: bool) -> None:
-    """The same by a desk that is older than the route, and by `deskctl` alone."""
-    if older:
-        between.shows["/waiting"] = between.shows["/changes"] = refused(53)
-        filled.people.update(filled.people_at(between.url))
+def test_each_role_sees_what_waits_for_it(filled: Office) -> None:
+    """The same by `deskctl` alone."""
     for name in DUE:
         expect(seen(filled, name), DUE[name], f"what {name} sees")
     expect(seen(filled, "rita", ""), DUE["rita"], "deskctl alone")
@@ -96,13 +88,6 @@ def test_a_terminal_says_what_one_entry_is(filled: Office, between: Between) -> 
     # (no certificate is named)
     expect([head for head in between.seen if b" /db" in head], [], "the lists that were read")
     expect(seen(filled, "otto")[1], "waits proposal 3 1 digest|olga|0 minutes", "without one")
-
-
-def test_a_proposals_age_is_by_the_time_in_its_key() -> None:
-    for days, hours, due in ((0, 0, "0 minutes"), (0, 5, "5 hours"), (1, 5, "1 day"),
-                             (-9, 0, "0 minutes")):
-        time = now() - datetime.timedelta(days=days, hours=hours)
-        expect(age(time.strftime("%Y-%m-%d %H:%M:%S")), due, f"{days} days, {hours} hours ago")
 
 
 def test_an_officer_sees_how_old_a_proposal_is(filled: Office, between: Between) -> None:

@@ -9,11 +9,9 @@ import pytest
 from checks.support.between import Between, shown
 from checks.support.deskctl import Office, Person
 from checks.support.images import digest
-from checks.support.messages import refused
 from checks.support.says import expect
 from checks.support.wire import wire
 from kovelamiru.search import proposal_matches, request_matches
-from kovelamiru.words import cut
 
 SEARCH: dict[str, Any] = wire("cases/search")
 STATES = ("open", "approved", "signed", "rejected")
@@ -81,33 +79,6 @@ def test_a_list_is_read_in_parts_and_no_further_than_it_is_shown(
     expect([one["number"] for one in rita.json("requests --limit 2 --from 1001")], [1001, 1002], "")
     expect(rita.json("requests --search 'no such title'"), [], "as JSON")
     rita.ends(2, "requests --limit 0", "no number")
-
-
-def test_an_older_desks_whole_list_is_read_the_same(rita: Person, between: Between) -> None:
-    rows = [row(number) for number in range(1, COUNT + 1)]
-    between.shows = {"/requests": shown(rows), "/requests/from/1999": refused(53)}
-    expect(numbers(rita, "--from 1999"), [1999, 2000], "the rows of an older desk")
-
-
-def test_an_empty_list_says_what_was_asked_for(office: Office) -> None:
-    for line, due in (
-        ("requests --state approved", "No approved requests."),
-        ("requests --mine --search shim", "No requests of yours with 'shim'."),
-        ("requests --from 7", "No requests from 7 on."),
-    ):
-        expect(office["rita"].asked(line), (0, f"{due}\n"), line)
-    expect(office["olga"].asked("proposals --state open"), (0, "No open proposals.\n"), "")
-
-
-def test_80_columns_keep_the_end_of_a_title(rita: Person) -> None:
-    status, said = rita.asked("requests --limit 6", size=(24, 80))
-    lines = said.splitlines()
-    assert status == 0 and max(map(len, lines)) <= 80, said
-    [third] = [line for line in lines if line.startswith("3 ")]
-    assert third.endswith(", for amd64") and "~" in third, said
-    expect(lines[-1], "--from 7 goes on behind these.", "how it goes on")
-    expect([cut("linux 6.12 amd64", width) for width in (16, 9, 2)],
-           ["linux 6.12 amd64", "linu~md64", "~4"], "a text that is cut")
 
 
 @pytest.mark.parametrize("pager, due", [

@@ -9,7 +9,6 @@ from checks.support.between import BUSY, HTML, Between, answer
 from checks.support.cases import row_bytes
 from checks.support.deskctl import Office
 from checks.support.images import PLAIN, authenticode, signing, with_text
-from checks.support.messages import refused
 from checks.support.says import expect
 from checks.support.wire import wire
 
@@ -23,11 +22,8 @@ IMAGES = {
 CASES = {case["name"]: row_bytes(LOOKS["parts"], case["bytes"]) for case in LOOKS["signatures"]}
 DERS = {name: row_bytes(LOOKS["parts"], LOOKS["parts"][name])
         for name in ("ca", "between", "leaf", "low", "other", "ec")}
-NOT_RSA, A_CA = "! Its key isn't RSA", "! It says that it is a CA's"
-REVOKED = "! It is revoked at this desk"
-ISSUER = "A certificate with its issuer's name is revoked: O=A distribution, CN=Image CA"
+A_CA = "! It says that it is a CA's"
 SIGNER = "its signer's issuer is listed; the desk compares what the image carries"
-OWN = "! You proposed it yourself"
 
 
 def test_what_the_desk_cant_read_is_revoked_by_its_digests(office: Office) -> None:
@@ -50,19 +46,6 @@ def at_hand(office: Office) -> None:
     office.file("odd.efi", CASES["an unsigned image"] + b"12345")
 
 
-def test_what_is_odd_of_a_certificate_is_asked_before_it_is_listed(office: Office) -> None:
-    for line, *texts in (
-        ("ec.der", "key         EC, P-384", NOT_RSA, "SetVariable refuses the whole"),
-        ("ca.der --image signed.efi", A_CA, "! signed.efi doesn't carry it", "(CN=Image signer)"),
-        ("leaf.der --image missing.efi", "No such file"),
-    ):
-        office.refuses("olga", f"list-certificate {line}", *texts)
-    line = "list-certificate leaf.der --image leaf.der"
-    office.refuses("olga", line, "refused 2 NoMz", status=1)
-    status, said = office["olga"].asked("list-certificate leaf.der --image signed.efi", "no")
-    assert status == 2 and "carried     by signed.efi" in said and "! " not in said, said
-
-
 def test_a_verdict_says_that_a_signers_issuer_is_listed(office: Office) -> None:
     office["olga"].does("list-certificate ca.der --yes", err=[A_CA])
     ann = office["ann"]
@@ -71,39 +54,12 @@ def test_a_verdict_says_that_a_signers_issuer_is_listed(office: Office) -> None:
     assert SIGNER not in ann.run("verdict unsigned.efi").err
 
 
-def test_a_revoked_issuer_is_told_though_it_isnt_listed_any_more(office: Office) -> None:
-    """Its body is in the minutes."""
-    olga, otto = office["olga"], office["otto"]
-    olga.does("list-certificate ca.der --yes")
-    olga.does("revoke --certificate ca.der", "proposal 1")
-    otto.does("confirm 1 --yes")
-    office.refuses("olga", "list-certificate leaf.der", ISSUER)
-    olga.does("unlist certificate ca.der")
-    office.refuses("olga", "list-certificate leaf.der", ISSUER)
-    office.refuses("olga", "list-certificate ca.der", REVOKED)
-    olga.does("revoke --certificate leaf.der", "proposal 2")
-    office.refuses("olga", "list-certificate ec.der", ISSUER, NOT_RSA)
-    otto.does("confirm 2 --yes")
-    office.refuses("olga", "list-certificate leaf.der", REVOKED, ISSUER)
-    # One that is neither revoked nor issued by a revoked one.
-    assert "!" not in olga.run("list-certificate other.der").err
-    office["ann"].does(
-        "facts unsigned.efi two.efi", "dbx         a certificate that it carries is revoked",
-        f"Today neither dbx nor db nor the level of {office.url} speaks of it.",
-    )
-
-
 def test_facts_tell_what_an_image_is(office: Office) -> None:
     ann = office["ann"]
     ann.does(
         "facts unsigned.efi two.efi", "signature   1: over SHA-1, by CN=Image signer",
-        "signature   2: over SHA-256", "it holds the image's digest",
-        "misses signature 1 (over SHA-1)", "length      1,024 bytes", "CN=Image signer\n",
-        err=["isn't proved"],
+        "signature   2: over SHA-256", "misses signature 1 (over SHA-1)", "length      1,024 bytes",
     )
-    ann.does("facts odd.efi",
-             "two digests: of an unsigned image firmware looks at `digest`, and shim at `signing`")
-    ann.ends(1, "facts leaf.der", "refused 2 NoMz", "leaf.der is DER")
     names = ["carried", "components", "digest", "file", "gap", "length", "signing"]
     expect(sorted(ann.json("facts two.efi")), names, "facts as JSON")
 
@@ -123,16 +79,6 @@ def test_a_file_is_compared_with_a_requests(office: Office) -> None:
     ann.ends(1, "compare 2 signed.efi", "refused 23 NoSuchRequest")
     ann.ends(1, "compare 1 leaf.der", "refused 2 NoMz")
     ann.ends(2, "compare signed.efi 1", "no number")
-
-
-def test_an_officers_own_proposal_is_told_before_the_question(office: Office) -> None:
-    olga, otto = office["olga"], office["otto"]
-    olga.does(f"revoke --digest {'77' * 32}", "proposal 1")
-    office.refuses("olga", "confirm 1 --bars 0", OWN, "no terminal to ask at")
-    olga.does("proposal 1", OWN)
-    assert "yourself" not in otto.does("proposal 1")
-    status, said = olga.asked("confirm 1", "no")
-    assert status == 2 and said.index(OWN) < said.index("type how many"), said
 
 
 def test_a_reviewers_own_request_is_told_before_the_question(office: Office) -> None:
@@ -167,18 +113,3 @@ def test_several_verdicts_are_a_line_a_file_and_the_worst_status(office: Office)
     ann.holds("nobody-has-this-token")
     said = ann.run("verdict signed.efi signed.efi")
     expect((said.status, said.err.count("refused 20")), (1, 1), "an unknown caller")
-
-
-def test_a_desk_that_doesnt_tell_who_calls_names_nobody(office: Office, between: Between) -> None:
-    """`me`; facts then come from the program, if it is named."""
-    office["ann"].does("me", "ann submitter")
-    expect(office["olga"].json("me"), {"name": "olga", "role": "officer"}, "me as JSON")
-    office["olga"].does(f"revoke --digest {'77' * 32}")
-    between.shows["/me"] = refused(53)
-    ann, olga = office["ann"].at(between.url), office["olga"].at(between.url)
-    ann.ends(1, "me", "doesn't tell who you are", "older than deskctl")
-    ann.ends(2, "requests --mine", "--mine needs your name, which this desk doesn't tell")
-    ann.does("requests --mine --name ann")
-    olga.ends(1, "confirm 1 --yes", "refused 38 OwnProposal")
-    ann.env["DESK_PROGRAM"] = office.desk.path
-    ann.does("facts signed.efi", "signature   1: over SHA-256")

@@ -11,7 +11,7 @@ import pytest
 from checks.support.between import Between
 from checks.support.client_day import BY_REQUESTS, CERTIFICATE, TBS, TODAY
 from checks.support.deskctl import Office, Person, with_room
-from checks.support.images import PLAIN, authenticode, digest, sha256, with_text
+from checks.support.images import PLAIN, authenticode, digest, with_text
 from checks.support.messages import posted
 from checks.support.says import expect
 from checks.support.tools import ROOT, ran
@@ -147,17 +147,3 @@ def test_each_line_has_a_sentence_and_why_finds_those_of_an_image(day: Office) -
               "the level requires grub 4")
     olga.does("minutes --into copy")
     expect(ann.does("why shim.efi --minutes copy"), told, "why by a copy of the minutes")
-
-
-def test_what_why_cant_tell_is_said(office: Office) -> None:
-    """A slip of a component, words that are none of the three, a role that sees no minutes."""
-    office.file("shim.efi", IMAGE)
-    office.file("cut.efi", IMAGE[:100])
-    olga, ann = office["olga"], office["ann"]
-    olga.does("why grbu", err=["don't speak of the component grbu"])
-    olga.ends(2, f"why {sha256(IMAGE)[:-1]}", "is no file and no SHA-256")
-    olga.ends(2, "why shmi.efi", "shmi.efi is no file")
-    olga.ends(1, "why cut.efi", "refused")
-    olga.ends(2, "why", "missing: HEX|FILE|COMPONENT")
-    ann.ends(1, "why shim.efi", "refused 21 NotYourRole", "is for officers", "--minutes FILE")
-    ann.ends(2, "why shim.efi --minutes shim.efi", "line 1 isn't the minutes' line 1")

@@ -51,21 +51,6 @@ def test_a_text_that_the_desk_wont_take_has_its_cause(office: Office) -> None:
     )
 
 
-@pytest.mark.parametrize("name, data, number, text", [
-    ("empty", b"", "1 Short", "is empty"),
-    ("real.pem", b"-----BEGIN CERTIFICATE-----\n" + bytes(64), "2 NoMz", "a certificate in PEM"),
-    ("a.gz", b"\x1f\x8b" + bytes(100), "2 NoMz", "compressed by gzip"),
-    ("a.deb", b"!<arch>\n" + bytes(100), "2 NoMz", "a Debian package"),
-    ("dos.exe", b"MZ" + bytes(100), "3 NoPe", "an EFI image that the desk reads"),
-])
-def test_what_is_no_image_is_named(
-    office: Office, name: str, data: bytes, number: str, text: str
-) -> None:
-    office.file(name, data)
-    office.refuses_all((f"ann submit {name} --title T", f"refused {number}", text),
-                (f"olga revoke {name}", f"refused {number}"))
-
-
 def test_a_files_name_moves_no_cursor(office: Office) -> None:
     office.file("\x1b[7m.esl", digest_list([digest("31")]))
     office["olga"].does("import '\x1b[7m.esl' --dry-run", "\\x1b[7m.esl: ")

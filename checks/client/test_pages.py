@@ -2,7 +2,6 @@
 from __future__ import annotations
 
 import re
-import shutil
 import subprocess
 import sys
 from pathlib import Path
@@ -76,11 +75,3 @@ def test_bash_completes(typed: str, due: list[str], pages: Path) -> None:
             ' && printf "%s\\n" "${COMPREPLY[@]}"')
     found = ran("bash", "-c", text, pages / "deskctl.bash", *typed.split(" "))
     expect(found.decode().split(), due, "the completions")
-
-
-def test_zsh_and_fish_read_their_completions_where_they_are_installed(pages: Path) -> None:
-    if shutil.which("zsh"):
-        ran("zsh", "-n", pages / "_deskctl")
-    if shutil.which("fish"):
-        found = ran("fish", "-c", f"source {pages}/deskctl.fish; complete -C 'deskctl get d'")
-        expect([line.split("\t")[0] for line in found.decode().splitlines()], ["db", "dbx"], "d")

@@ -15,8 +15,8 @@ from kovelamiru.answers import Request
 from kovelamiru.certificates import Certificate, certificate_in
 from kovelamiru.pkcs7 import signatures_of
 from kovelamiru.questions import (
-    QUESTIONS, carried_question, issued_question, plain_question, several_question,
-    twice_question, unknown_words, unlist_question, yes_question
+    QUESTIONS, carried_question, issued_question, plain_question, several_question, twice_question,
+    unknown_words, yes_question,
 )
 from kovelamiru.standing import Standing
 from kovelamiru.unlisting import losing
@@ -58,12 +58,6 @@ def test_one_vote_on_several_requests_asks_about_each(case: dict[str, Any]) -> N
     each = [(one.number, list(yes_question(one, NOW).values()) if case["vote"] == "yes"
              else plain_question("no", one.number)) for one in requests]
     assert several_question(case["vote"], each) == (case["lines"], case["title"])
-
-
-@pytest.mark.parametrize("name", ["no", "withdraw", "drop"])
-def test_what_cant_be_taken_back_is_asked_about(name: str) -> None:
-    told = " ".join(plain_question(name, 7))
-    assert " 7 " in told and "{" not in told
 
 
 LOOKS: dict[str, Any] = wire("cases/looks")
@@ -119,12 +113,3 @@ def test_the_signed_files_that_only_an_entry_allows_are_found(case: dict[str, An
         set(revoked["certificates"]), UNLIST["level"],
     )
     assert losing(now, UNLIST["minutes"], case["entry"]) == case["loses"]
-
-
-def test_an_unlisting_says_how_many_lose_their_verdict_and_the_first_of_them() -> None:
-    six = [replace(request_of({}), number=number) for number in range(1, 7)]
-    lines = unlist_question(1234, six[:5])
-    assert ": 1,234. They are those of request 1 (a loader), request 2 (a loader)," in lines[0]
-    assert lines[0].endswith("request 5 (a loader) and 1,229 more.")
-    assert unlist_question(1, six[:1])[0].endswith(": 1. They are those of request 1 (a loader).")
-    assert unlist_question(0, [])[0] == QUESTIONS["unlist"]["none"]

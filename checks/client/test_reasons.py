@@ -58,18 +58,6 @@ def test_a_morning_with_reasons(office: Office) -> None:
     office.once(9)
 
 
-def test_a_reason_that_isnt_one_is_refused_before_anything_is_sent(office: Office) -> None:
-    office["olga"].does(REVOKE)
-    office.refuses_all(
-        (f"olga {REVOKE} --why 'caf\u00e9'", "the reason has 'é' at place 4"),
-        (f"olga {REVOKE} --why ' a'", "a reason can't begin or end with a space"),
-        (f"olga {REVOKE} --why {'a' * 201}", "the reason has 201 characters, and may have 1 to"),
-        ("olga explain 1 ''", "the reason has 0 characters"),
-        ("olga explain 2 a", "refused 37 NoSuchProposal"),
-        ("ann explain 1 a", "refused 21", "`deskctl explain` is for officers."),
-    )
-
-
 def test_a_reason_is_asked_for_at_a_terminal(office: Office) -> None:
     """What isn't in its form is asked for again; an empty line is none."""
     typed = f"caf\u00e9\n{BECAUSE}"

@@ -1,24 +1,22 @@
-"""What a search by digests tells is what the whole list tells: at an older desk, behind an older
-proxy and for many digests the list is read. What is asked for it."""
+"""What a search by digests tells, and what is asked for it; for many digests the list is read."""
 from __future__ import annotations
 
 import io
 from types import SimpleNamespace
-from typing import Any, Callable, Optional, Sequence
+from typing import Any, Optional, Sequence
 
 import pytest
 
 from checks.support.messages import said
 from checks.support.says import expect
 from kovelamiru import doubts
-from kovelamiru.answers import MOST, Having, Request, having, shaped
+from kovelamiru.answers import MOST
 from kovelamiru.desk import PART, Desk
-from kovelamiru.deskctl import returns, submits
+from kovelamiru.deskctl import returns
 from kovelamiru.facts import Facts
-from kovelamiru.faults import Lost, NoPath, Refused, Stop
+from kovelamiru.faults import Lost, Refused, Stop
 from kovelamiru.http import BYTES, JSON, TEXT, Answer, Call, address
 from kovelamiru.terminal import Terminal
-
 
 
 def of(byte: int) -> str:
@@ -62,7 +60,7 @@ def has(one: dict[str, Any], digest: str) -> bool:
 
 
 class Held(Desk):
-    """A desk that holds these requests; by `lacks` it has no search, or what is before it."""
+    """A desk that holds these requests; a search of it may end with `lacks`."""
 
     def __init__(self, held: Sequence[dict[str, Any]], lacks: Optional[Stop] = None) -> None:
         terminal = Terminal(io.StringIO(), io.StringIO())
@@ -85,10 +83,6 @@ class Held(Desk):
     def requests(self) -> list[str]:
         """What was asked of requests."""
         return [path.removeprefix("/requests/") for path in self.asked if "/requests" in path]
-
-
-def older() -> Held:
-    return Held(HELD, Refused(53, "NoRoute"))
 
 
 def run_at(desk: Desk) -> Any:
@@ -118,13 +112,11 @@ CASES: list[tuple[list[str], list[str], str]] = [
 def test_a_search_tells_what_the_list_tells(
     digests: list[str], certificates: list[str], text: str
 ) -> None:
-    desk, before = Held(HELD), older()
+    desk = Held(HELD)
     found = told(desk, digests, certificates)
-    expect(found, told(before, digests, certificates), "what is told")
     assert text in str(found), found
     due = sorted({f"with/{one}" for one in (*digests, *certificates)})
     expect(desk.requests(), due, "what is asked of requests")
-    expect(before.requests()[:2], [due[0], "from/1"], "what an older desk is asked")
 
 
 def test_the_list_is_read_for_names_alone_and_tells_nothing_again() -> None:
@@ -133,20 +125,15 @@ def test_the_list_is_read_for_names_alone_and_tells_nothing_again() -> None:
     parts = ["from/1", "from/10"]
     for count, due in ((2, parts[:0]), (3, parts[:1]), (4, parts)):
         desk = Held(HELD)
-        found = told(desk, [SIGNING], [LONE], raised[:count])
-        expect(found, told(older(), [SIGNING], [LONE], raised[:count]), f"{count} names")
+        told(desk, [SIGNING], [LONE], raised[:count])
         expect(desk.requests(), [f"with/{SIGNING}", f"with/{LONE}", *due], f"{count} names")
-    desk = Held(HELD)
-    doubts.known(desk, [], [], raised[1:2])
-    expect(desk.requests(), ["from/1"], "what a name asks")
 
 
 def test_many_digests_and_other_words_are_looked_for_in_the_list() -> None:
     few = [f"{number:064x}" for number in range(MOST - 1)]
     for more, way in (([DIGEST], "with/"), ([DIGEST, LONE], "from/"), (["no digest"], "from/")):
         desk = Held(HELD)
-        found = told(desk, few + more, [])
-        expect(found, told(older(), few + more, []), "what is told")
+        told(desk, few + more, [])
         expect({path[:5] for path in desk.requests()}, {way}, f"{len(few + more)} digests")
 
 
@@ -154,37 +141,8 @@ def test_many_digests_and_other_words_are_looked_for_in_the_list() -> None:
 def test_a_token_that_was_typed_as_a_digest_goes_into_no_address(token: str) -> None:
     """It may have a digest's form; the list is read then."""
     desk = Held(HELD)
-    found = told(desk, [DIGEST, token], [])
-    expect(found, told(older(), [DIGEST, token], []), "what is told")
+    told(desk, [DIGEST, token], [])
     expect([path for path in desk.asked if TOKEN in path.lower()], [], "the addresses with it")
-
-
-def test_behind_the_first_thousand_the_list_goes_on() -> None:
-    """For a digest. Of a certificate they tell all that is told."""
-    held = [request(number, digest=DIGEST, carried=[MANY]) for number in range(1, PART + 2)]
-    desk = Held(held)
-    found = doubts.known(desk, [DIGEST], [MANY])
-    expect(len(found.halves), PART + 1, "the images with another digest")
-    expect(desk.requests()[2:], ["from/1", "from/1001", "from/1002"], "the parts")
-    desk = Held(held)
-    assert "carried by request 3 (open, image 3); .." in doubts.known(desk, [], [MANY]).about[MANY]
-    expect(desk.requests(), [f"with/{MANY}"], "what a certificate asks")
-    expect(having(desk, [MANY]), Having([shaped(Request, one) for one in held[:PART]], {MANY}), "")
-
-
-@pytest.mark.parametrize("count, parts", [
-    (PART - 1, []), (PART, ["from/1", "from/1001"]),
-    (PART + 1, ["from/1", "from/1001", "from/1002"]),
-])
-def test_of_a_thousand_requests_of_a_file_the_list_is_read(count: int, parts: list[str]) -> None:
-    """Before a submission, and before a return."""
-    image = returns.Image("a.efi", b"", Facts(512, 0, of(90), FILE, FILE, [], []))
-    ways: list[Callable[[Any], list[Request]]] = [
-        lambda run: submits.alike(run, {FILE}), lambda run: returns.candidates(run, [image])]
-    for ask in ways:
-        desk = Held([request(number, file=FILE) for number in range(1, count + 1)])
-        found = ask(run_at(desk))
-        expect((len(found), desk.requests()), (count, [f"with/{FILE}", *parts]), "requests")
 
 
 @pytest.mark.parametrize("digests, numbers, asked", [
@@ -195,16 +153,9 @@ def test_what_waits_for_a_signature_is_no_more_searched_for(
     digests: list[str], numbers: list[int], asked: list[str]
 ) -> None:
     images = [returns.Image(one, b"", Facts(512, 0, of(90), one, one, [], [])) for one in digests]
-    desk, before = Held(HELD), older()
+    desk = Held(HELD)
     found = returns.candidates(run_at(desk), images)
     expect(([one.number for one in found], desk.requests()), (numbers, asked), "the requests")
-    found = returns.candidates(run_at(before), images)
-    expect([one.number for one in found], [12] if not asked else [*range(1, 10)], "by the list")
-
-
-def test_behind_an_older_proxy_the_list_is_read() -> None:
-    desk = Held(HELD, NoPath(1, "refused by the proxy: 404 Not Found"))
-    expect(told(desk, [FILE], [LONE]), told(older(), [FILE], [LONE]), "what is told")
 
 
 @pytest.mark.parametrize("stop", [

@@ -3,13 +3,12 @@ precondition, and takes effect once. Votes end at the first that is refused; of 
 refused is told."""
 from __future__ import annotations
 
-import json
 from typing import Any
 
 import pytest
 
 from checks.client.test_looks import CASES
-from checks.support.between import NO_ANSWER, OLDER, Between, instead
+from checks.support.between import NO_ANSWER, Between, instead
 from checks.support.client_day import ODD, SIGNED
 from checks.support.deskctl import NO_TERMINAL, Office
 from checks.support.images import PLAIN, TABLE, authenticode, changed, with_table
@@ -142,15 +141,6 @@ def test_what_is_left_is_what_may_take_the_vote(
     filled.once(len(POSTS) + len(on))
 
 
-def test_replies_of_several_votes_are_json_a_line_each(filled: Office) -> None:
-    """So are those before one that is refused."""
-    raul = filled["raul"]
-    expect(len(raul.json_lines("review 3 4 no --yes")), 2, "replies as JSON")
-    found = raul.run("review 1 3 2 yes --json")
-    expect((found.status, [json.loads(line)["reply"] for line in found.out.splitlines()]),
-           (1, ["reviewed"]), "the replies")
-
-
 def test_a_lost_answer_keeps_the_keys_of_all_and_each_acts_once(
     filled: Office, between: Between
 ) -> None:
@@ -241,12 +231,8 @@ def test_each_file_of_a_folder_goes_to_the_request_of_its_image(signing: Office)
     signing.refuses("sid", "return missing", "No such file")
 
 
-@pytest.mark.parametrize("older", [None, *OLDER])
-def test_only_requests_of_a_files_image_are_asked_for(
-    signing: Office, between: Between, older: str | None
-) -> None:
-    """Where none of the image waits; at an older desk all are."""
-    between.older = OLDER.get(older or "")
+def test_only_requests_of_a_files_image_are_asked_for(signing: Office, between: Between) -> None:
+    """Where none of the image waits."""
     strange = changed(PLAIN, (600, "ff"))
     signing.file("signed/strange.efi", strange)
     sid = signing["sid"].at(between.url)
@@ -254,9 +240,7 @@ def test_only_requests_of_a_files_image_are_asked_for(
     sid.ends(2, "return signed --yes", "signed/amd64.efi: request 1 has it already.", *LEFT_OUT)
     left, due = [authenticode(PLAIN), authenticode(strange)], []
     for names in (left, [*left, authenticode(ODD + bytes(3))]):
-        searches = [f"/requests/with/{name}" for name in sorted(names)]
-        parts = ["/requests/from/1", "/requests/from/5"]
-        due += searches[:1] + parts if older else searches
+        due += [f"/requests/with/{name}" for name in sorted(names)]
     found = [path for path in between.asked("/requests/") if not path.endswith("/return")]
     expect(found, due, "what was asked for")
 

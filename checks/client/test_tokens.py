@@ -10,7 +10,7 @@ import pytest
 
 from checks.support.between import Between
 from checks.support.deskctl import Office
-from checks.support.images import PLAIN, digest, sha256
+from checks.support.images import PLAIN, sha256
 from checks.support.messages import token
 from checks.support.says import expect
 
@@ -146,9 +146,3 @@ def test_a_wrong_setting_is_refused(office: Office, text: str, words: str) -> No
     del office["olga"].env["DESK_URL"]
     settings(office, text)
     office.refuses("olga", "report", words)
-
-
-def test_a_program_that_isnt_there_is_told_how_to_install(office: Office) -> None:
-    office["olga"].env["DESK_PROGRAM"] = "/nowhere/desk"
-    office.refuses("olga", "revoke plain.efi", "Install kovelamiru-desk")
-    office["olga"].does(f"revoke --digest {digest('12')}")

@@ -6,11 +6,9 @@ import re
 
 import pytest
 
-from checks.support.between import NO_ANSWER, OLDER, Between
+from checks.support.between import NO_ANSWER, Between
 from checks.support.deskctl import Office
-from checks.support.images import (
-    PLAIN, authenticode, changed, sha256, signing, with_table, with_text
-)
+from checks.support.images import PLAIN, authenticode, changed, sha256, signing, with_text
 from checks.support.says import expect
 from checks.support.wire import wire
 from kovelamiru.titles import apart_in, group_of, machine_names, name_of, titles_of
@@ -113,12 +111,9 @@ def test_a_file_that_was_submitted_before_is_asked_about(built: Office) -> None:
     assert "submitted before" not in ann.asked(line)[1]
 
 
-@pytest.mark.parametrize("older", [None, *OLDER])
 def test_only_requests_of_the_files_and_their_images_are_asked_for(
-    built: Office, between: Between, older: str | None
+    built: Office, between: Between
 ) -> None:
-    """At an older desk one's own are."""
-    between.older = OLDER.get(older or "")
     for title in ("shim", "grub"):
         built["ann"].does(f"submit vmlinuz-arm64 --title {title}")
     built["rita"].does("submit vmlinuz-amd64 --title other")
@@ -130,24 +125,7 @@ def test_only_requests_of_the_files_and_their_images_are_asked_for(
     arm = image("arm64")
     names = {sha256(odd), authenticode(odd), signing(odd), sha256(arm), authenticode(arm)}
     due = [f"/requests/with/{name}" for name in sorted(names)]
-    parts = ["/requests/from/1", "/requests/from/3"]
-    expect(between.asked("/requests"), due[:1] + parts if older else due, "what was asked for")
-
-
-def test_an_image_that_was_submitted_in_another_file_is_asked_about(built: Office) -> None:
-    """One that was signed since, or whose signature was taken off; of what is no image nothing is
-    asked."""
-    ann = built["ann"]
-    built.file("signed", with_table(image("amd64"), bytes(16)))
-    built.file("log", b"text")
-    ann.does("submit vmlinuz-amd64 --title first")
-    said = "The same image was submitted before in another file, as request 1 (open)."
-    for name, word in (("signed", said), ("vmlinuz-amd64", "The same file was")):
-        ended, told = ann.asked(f"submit {name} --title again", "no")
-        assert ended == 2 and f"{name}: {word}" in told, told
-    ended, told = ann.asked("submit log --title again")
-    assert ended == 1 and "submitted before" not in told, told
-    expect(titles(built), ["first"], "the titles")
+    expect(between.asked("/requests"), due, "what was asked for")
 
 
 def test_an_uploads_rows_stand_below_one_row(built: Office) -> None:

@@ -60,14 +60,3 @@ def test_a_port_without_a_desk_is_told_within_seconds(office: Office) -> None:
     office["olga"].at(f"http://127.0.0.1:{nobody.port}").ends(3, "report", "no connection")
     assert 3 <= time.monotonic() - begun < 20
     nobody.let_go()
-
-
-def test_an_answer_that_takes_long_is_waited_for_aloud(monkeypatch: pytest.MonkeyPatch) -> None:
-    monkeypatch.setattr(terminal, "PATIENCE", 0.1)
-    for seconds, due in ((0.4, 1), (0.0, 0)):
-        silent = Silent(False, seconds)
-        silent.retries = 0
-        asked(silent, READ)
-        said = silent.terminal.err
-        assert isinstance(said, io.StringIO)
-        expect(said.getvalue().count("waiting for http://127.0.0.1:1\n"), due, "what is said")

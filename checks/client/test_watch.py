@@ -4,17 +4,13 @@ from __future__ import annotations
 
 import json
 import re
-import shutil
-import subprocess
 import threading
 from pathlib import Path
 
-import pytest
 
 from checks.support.between import Between, answer
 from checks.support.deskctl import Office, Person
 from checks.support.images import digest
-from checks.support.messages import refused
 from checks.support.says import expect, fail
 from checks.support.tools import ROOT
 from checks.support.waits import until
@@ -26,13 +22,8 @@ def told(person: Person, words: str = "") -> list[str]:
     return person.does(f"watch --once {words}").splitlines()
 
 
-@pytest.mark.parametrize("older", [False, True])
-def test_each_role_is_told_once_what_waits_for_it(
-    office: Office, between: Between, older: bool
-) -> None:
+def test_each_role_is_told_once_what_waits_for_it(office: Office, between: Between) -> None:
     people = office.people_at(between.url)
-    if older:
-        between.shows["/waiting"] = between.shows["/changes"] = refused(53)
 
     def tells(name: str, *lines: str) -> None:
         expect(told(people[name]), [*lines], f"what {name} is told")
@@ -176,14 +167,6 @@ def test_it_goes_on_through_a_desk_that_doesnt_answer(office: Office, between: B
         fail(f"{line!r} {said + err!r}")
 
 
-def test_wrong_words_and_an_older_desk_are_told(office: Office, between: Between) -> None:
-    ann = office["ann"].at(between.url)
-    ann.ends(2, "watch --every soon", "no number of seconds")
-    ann.ends(2, "watch --exec", "expected one argument")
-    between.shows["/me"] = refused(53)
-    ann.ends(1, "watch --once", "doesn't say who calls", "older than deskctl")
-
-
 def test_the_timers_unit_sends_mail(office: Office) -> None:
     """Its line as systemd would split it, with a mail program of ours."""
     sid, room = office["sid"], office.desk.room
@@ -198,15 +181,3 @@ def test_the_timers_unit_sends_mail(office: Office) -> None:
     sid.does(f'{line[1]} --exec "{line[2].replace("%u", "sid")}"')
     expect((kept(mail), kept(mail, "words").split(" ", 1)[1]),
            ("request 1 of ann waits for its signed file: $(touch taken)\n", "-s\n"), "by mail")
-
-
-def test_systemd_reads_the_units_where_it_is_installed() -> None:
-    if not shutil.which("systemd-analyze"):
-        return
-    units = [EXAMPLES / f"deskctl-watch.{kind}" for kind in ("service", "timer")]
-    done = subprocess.run(["systemd-analyze", "verify", *units], capture_output=True, text=True,
-                          check=False)
-    # (deskctl may be installed or not)
-    odd = [line for line in done.stderr.splitlines() if "deskctl-watch" in line
-           and not re.search(r"man deskctl|is not executable", line)]
-    expect(odd, [], "what systemd-analyze says")
