@@ -1,60 +1,94 @@
 #!/usr/bin/env -S python3 -B
-"""checks/replay.py [PROGRAM]: the levels of shim's SbatLevel_Variable.txt, in turn, at a desk with
-small images of the shapes that Debian signed: shim, GRUB, fwupd and kernels, for five
-architectures. At each level the verdict on each image, the impact before the Confirm, and whom the
-text of `deskctl level --for-shim` bars are held against a plain computation; that text has
-upstream's names (page/wire/cases/levels.json). A line a level says how many images are barred, and
-how many upstream's level alone would bar. It takes a minute.
-
-checks/replay.py PROGRAM --archive [FOLDER]: the same at a desk with Debian's own images, out of its
-packages in folders of FOLDER (a suite each), or of deb.debian.org by apt-get (some 600 MB): each
+"""checks/replay.py PROGRAM FOLDER: the levels of shim's SbatLevel_Variable.txt, in turn, at a desk
+with Debian's own images, out of its packages in folders of FOLDER, a suite each (`apt-get download`
+of shim-unsigned, shim-signed, shim-helpers-ARCH-signed, grub-efi-ARCH-bin or -unsigned,
+grub-efi-ARCH-signed, fwupd-unsigned, fwupd-ARCH-signed, and a kernel with its -unsigned one). Each
 unsigned one is submitted, approved and listed, and its signed twin returned. A table has for each
 suite and architecture the images that the packages hold, the twins (without a signature and with
 it), those of them whose digests are equal by the desk and by python/kovelamiru/pe.py, and whose
-signature names that digest, and what was refused, by its number; then what each level bars."""
+signature names that digest, and what was refused, by its number. At each level the verdict on each
+image, the impact before the Confirm, and whom the text of `deskctl level --for-shim` bars are held
+against a plain computation; that text has upstream's names (page/wire/cases/levels.json)."""
 from __future__ import annotations
 
 import json
+import subprocess
 import sys
+import tarfile
 import tempfile
+from collections import Counter
 from pathlib import Path
 from typing import Any, Iterable, Iterator, Mapping, NamedTuple
 
 ROOT = Path(__file__).resolve().parents[1]
 sys.path[:0] = [str(ROOT), str(ROOT / "python")]
-from checks.support.archive import Archive, Found, Twins, twins_in  # noqa: E402
 from checks.support.deskctl import Office, compiled  # noqa: E402
-from checks.support.images import PLAIN, changed, with_text  # noqa: E402
 from checks.support.messages import Field, got, posted  # noqa: E402
 from checks.support.program import Program  # noqa: E402
 from checks.support.says import expect, fail  # noqa: E402
 from checks.support.server import Server  # noqa: E402
 from checks.support.steps import named, vote  # noqa: E402
-from checks.support.tools import ran  # noqa: E402
 from checks.support.wire import wire  # noqa: E402
-from kovelamiru.pe import authenticode as of_file, hashed_ranges, texts_in  # noqa: E402
+from kovelamiru.pe import authenticode as of_file, hashed_ranges, number_at, texts_in  # noqa: E402
 
-# The architectures by their machine types, as they stand in a header.
-MACHINES = {"amd64": "6486", "i386": "4c01", "arm64": "64aa", "riscv64": "6450", "loong64": "6462"}
 Level = Mapping[str, int]
-# Each image's components beside sbat; a kernel has none.
-SHAPES: dict[str, list[tuple[str, int]]] = {
-    "shim 15.4": [("shim", 1), ("shim.debian", 1)], "shim 15.6": [("shim", 2), ("shim.debian", 1)],
-    "shim 15.7": [("shim", 3), ("shim.debian", 1)], "shim 15.8": [("shim", 4), ("shim.debian", 1)],
-    "shim 16.1": [("shim", 4), ("shim.debian", 1)],
-    "grub 2.04": [("grub", 1), ("grub.debian", 1)],
-    "grub 2.06-3~deb11u1": [("grub", 2), ("grub.debian", 1)],
-    "grub 2.06-3~deb11u4": [("grub", 3), ("grub.debian", 3)],
-    "grub 2.06-3~deb11u5": [("grub", 3), ("grub.debian", 4)],
-    "grub 2.06-3~deb11u6": [("grub", 4), ("grub.debian", 4), ("grub.peimage", 1)],
-    "grub 2.06-13+deb12u1": [("grub", 4), ("grub.debian", 4)],
-    "grub 2.12-1": [("grub", 4), ("grub.debian", 4), ("grub.peimage", 2)],
-    "grub 2.12-9": [("grub", 5), ("grub.debian", 5), ("grub.peimage", 2)],
-    "grub of Proxmox": [("grub", 5), ("grub.proxmox", 1)],
-    "grub of Proxmox, later": [("grub", 5), ("grub.proxmox", 2)],
-    "fwupd-efi 1.4": [("fwupd-efi", 1), ("fwupd-efi.debian", 1)], "linux 5.10": [],
-    "linux 6.12": [],
-}
+MACHINES = {0x8664: "amd64", 0xAA64: "arm64", 0x14C: "i386"}
+
+
+class Twins(NamedTuple):
+    """An image without a signature, and the same one with it."""
+
+    title: str
+    unsigned: bytes
+    signed: bytes
+
+    def place(self) -> str:
+        """Its suite and its machine."""
+        return self.title.rpartition(" ")[0]
+
+
+class Found(NamedTuple):
+    """What the packages hold: how many images of a suite and a machine, and the twins."""
+
+    counts: Counter[str]
+    twins: list[Twins]
+
+
+def images_in(package: Path) -> Iterator[tuple[str, bytes]]:
+    """The EFI images of a package, by their names without the ending of a signed one. A kernel's
+    package has one, before its thousands of modules."""
+    words = ["dpkg-deb", "--fsys-tarfile", str(package)]
+    with subprocess.Popen(words, stdout=subprocess.PIPE) as unpacks:
+        packed = tarfile.open(fileobj=unpacks.stdout, mode="r|")
+        for one in packed:
+            path = Path(one.name)
+            is_kernel = path.match("vmlinuz-*")
+            if not one.isfile() or not (is_kernel or path.suffix in (".efi", ".signed")):
+                continue
+            file = packed.extractfile(one)
+            data = file.read() if file else b""
+            if data.startswith(b"MZ"):
+                yield path.name.removesuffix(".signed"), data
+            if is_kernel:
+                break
+        unpacks.kill()
+
+
+def twins_in(folder: Path) -> Found:
+    """What the packages in the folder's folders hold, each folder a suite."""
+    plain: dict[str, bytes] = {}
+    signed: dict[str, bytes] = {}
+    counts: Counter[str] = Counter()
+    for package in sorted(folder.glob("*/*.deb")):
+        for name, data in images_in(package):
+            machine = number_at(data, number_at(data, 0x3C) + 4, "<H")
+            place = f"{package.parent.name} {MACHINES.get(machine, hex(machine))}"
+            counts[place] += 1
+            (signed if hashed_ranges(data)[1] else plain)[f"{place} {name}"] = data
+    if not counts:
+        fail(f"no package with an image in {folder}")
+    both = [Twins(title, plain[title], data) for title, data in signed.items() if title in plain]
+    return Found(counts, both)
 
 
 class Image(NamedTuple):
@@ -63,8 +97,8 @@ class Image(NamedTuple):
     title: str
     data: bytes
     components: list[tuple[str, int]]
-    # Its signed twin, or nothing.
-    signed: bytes = b""
+    # Its signed twin.
+    signed: bytes
 
     def is_barred(self, level: Level) -> bool:
         """The plain computation, as shim's SBAT.md has it."""
@@ -76,17 +110,6 @@ def image_of(twins: Twins) -> Image:
     text = texts_in(twins.unsigned, [b".sbat"]).get(".sbat", b"").decode("ascii", "replace")
     rows = [line.split(",") for line in text.splitlines() if line]
     return Image(twins.title, twins.unsigned, [(row[0], int(row[1])) for row in rows], twins.signed)
-
-
-def images() -> Iterator[Image]:
-    for arch, machine in MACHINES.items():
-        for number, (title, components) in enumerate(SHAPES.items()):
-            # (no two have the same bytes)
-            plain = changed(PLAIN, (68, machine), (512, f"{number:02x}"))
-            rows = [("sbat", 1), *components]
-            text = "".join(f"{name},{to},maker,{name},1,url\n" for name, to in rows)
-            data = with_text(plain, text.encode()) if components else plain
-            yield Image(f"{title} {arch}", data, components)
 
 
 class Replay:
@@ -125,9 +148,8 @@ class Replay:
             self.images[number] = image
             for name in ("rita", "raul"):
                 self.post(name, f"/requests/{number}/review", vote("yes"))
-            self.post("olga", "/db/digests", named(of_file(image.data)[1 if image.signed else 0]))
-            if image.signed:
-                self.takes(image, "sid", f"/requests/{number}/return", image.signed)
+            self.post("olga", "/db/digests", named(of_file(image.data)[1]))
+            self.takes(image, "sid", f"/requests/{number}/return", image.signed)
 
     def facts(self, data: bytes) -> Any:
         return self.post("sid", "/facts", data)
@@ -155,8 +177,7 @@ class Replay:
         """The requests whose images the desk bars; all others it allows."""
         found = set()
         for number, image in self.images.items():
-            data = image.signed or image.data
-            verdict = self.post("sid", "/verdict", data)["verdict"]
+            verdict = self.post("sid", "/verdict", image.signed)["verdict"]
             if verdict not in ("allowed", "sbat"):
                 fail(f"{image.title}: {verdict}")
             if verdict == "sbat":
@@ -181,7 +202,7 @@ def newly(replay: Replay, barred: set[int]) -> str:
     return "; ".join(f"{name} ({', '.join(places)})" for name, places in found.items())
 
 
-def replayed(replay: Replay, names_them: bool) -> int:
+def replayed(replay: Replay) -> int:
     """How many levels the desk took."""
     count, before = 0, set[int]()
     for row in wire("cases/levels")["upstream"][1:]:
@@ -195,7 +216,7 @@ def replayed(replay: Replay, names_them: bool) -> int:
         replay.for_shim(stamp, shim)
         alone = len(replay.plain(names))
         print(f"{stamp}  {len(barred)} of {len(replay.images)} barred, by upstream's alone {alone}")
-        if names_them and barred - before:
+        if barred - before:
             print(f"    {newly(replay, barred - before)}")
         before = barred
         count += 1
@@ -227,35 +248,21 @@ def table(replay: Replay, found: Found) -> None:
               f"  {'; '.join(refused) or 'none'}")
 
 
-def given_images(room: Path, words: list[str]) -> Found | None:
-    """Debian's, if they are asked for."""
-    if words[1:2] != ["--archive"]:
-        return None
-    (room / "apt").mkdir()
-    folder = Path(words[2]) if words[2:] else Archive(room / "apt").fetched()
-    return twins_in(folder)
-
-
-def main(words: list[str]) -> None:
-    program = words[0] if words else ran(ROOT / "desk", "--which", seconds=900).decode().split()[0]
+def main(program: str, folder: str) -> None:
     with tempfile.TemporaryDirectory() as name:
         room = Path(name)
-        room.chmod(0o711)
-        found = given_images(room, words)
+        found = twins_in(Path(folder))
         desk = Program(Path(program).resolve(), room)
         with Server(desk, desk.founded("desk.db")) as server:
             replay = Replay(Office(desk, server, compiled(room)))
-            replay.fills(map(image_of, found.twins) if found else images())
-            if found:
-                table(replay, found)
-            else:
-                expect(replay.refused, {}, "what is refused")
-            count = replayed(replay, found is not None)
+            replay.fills(map(image_of, found.twins))
+            table(replay, found)
+            count = replayed(replay)
     print(f"{count} levels: the desk bars what their computation bars")
 
 
 if __name__ == "__main__":
     try:
-        main(sys.argv[1:])
+        main(*sys.argv[1:])
     except AssertionError as fault:
         sys.exit(f"checks/replay.py: {fault}")

@@ -2,19 +2,12 @@
 from __future__ import annotations
 
 import shutil
-import zipfile
 from pathlib import Path
 
 import pytest
 
 from checks.packaging.conftest import Copy, Package, quiet
 from checks.support.tools import ran
-
-# What of python/ is no part of deskctl.
-OTHERS = (
-    "publish", "checkpoints.py", "mirror.py", "fetch.py", "programs.py", "reader.py", "standby.py",
-    "shim.py", "wire", "__pycache__", "README.md",
-)
 
 
 def test_it_is_the_same_bytes_wherever_it_is_made(
@@ -23,17 +16,6 @@ def test_it_is_the_same_bytes_wherever_it_is_made(
     again = tree.makes("deb-client.sh", room, elsewhere=True)
     assert again.name == client_package.deb.name
     quiet("cmp", client_package.deb, again)
-
-
-def test_deskctl_is_one_file_of_its_modules_and_their_data(
-    tree: Copy, client_package: Package, room: Path
-) -> None:
-    with zipfile.ZipFile(client_package.root / "usr/bin/deskctl") as packed:
-        packed.extractall(room)
-    modules = [word for name in OTHERS for word in ("-x", name)]
-    quiet("diff", "-r", *modules, tree.root / "python", room)
-    data = room / "kovelamiru" / "wire"
-    quiet("diff", "-r", "-x", "README.md", "-x", "cases", tree.root / "page/wire", data)
 
 
 def test_deskctl_runs_and_has_the_version_of_the_desk(

@@ -7,7 +7,7 @@ from pathlib import Path
 
 import pytest
 
-from checks.packaging.conftest import NAME, Package, quiet
+from checks.packaging.conftest import Package, quiet
 from checks.support.tools import ROOT, ran
 from checks.support.wire import REFUSALS
 
@@ -15,11 +15,6 @@ TOOLS = ("desk-publish", "desk-standby", "kovelamiru-mirror")
 PAGES = (
     "man1/desk.1", "man7/desk-http.7", "man1/deskctl.1", "man7/desk-operate.7", "man1/desk-demo.1",
     *(f"man1/{name}.1" for name in TOOLS),
-)
-PARTS = ("SUBCOMMANDS", "INPUT AND OUTPUT", "EXIT STATUS", "DIAGNOSTICS")
-CHAPTERS = (
-    "THE SERVICE", "WHO MAY CONNECT", "BACKUP", "A STANDBY", "A CLUSTER", "PUBLISHING", "AUDITS",
-    "RUNBOOKS", "OTHER TOOLS", "FILES",
 )
 COMPLETED = """
 . "$0" && COMP_WORDS=(desk "$@") COMP_CWORD=$# && _desk && printf '%s\\n' "${COMPREPLY[@]}"
@@ -61,27 +56,6 @@ def test_mandoc_has_no_warning_of_a_page(page: Path) -> None:
 
 
 @pytest.mark.needs("man")
-def test_desk_1_has_each_subcommand_with_an_example_and_each_part(
-    package: Package, subcommands: list[str], room: Path
-) -> None:
-    said = shown(source(package, PAGES[0], room))
-    due = [f"desk {one}" for one in subcommands] + [*PARTS]
-    assert [what for what in due if not tells(said, what)] == []
-    examples = "\n".join(re.findall(r"^ *Example:\n.*\n?.*", said, re.M))
-    assert [one for one in subcommands if not tells(examples, f"desk {one}")] == []
-
-
-@pytest.mark.needs("man")
-def test_the_operators_chapters_are_in_desk_operate_7_alone(package: Package, room: Path) -> None:
-    said = shown(source(package, PAGES[3], room))
-    assert [what for what in CHAPTERS if not re.search(rf"^{what}$", said, re.M)] == []
-    assert re.search("both digests", said, re.I)
-    reference = shown(source(package, PAGES[0], room))
-    assert [what for what in CHAPTERS if re.search(rf"^{what}$", reference, re.M)] == []
-    assert tells(reference, "desk-operate(7),")
-
-
-@pytest.mark.needs("man")
 @pytest.mark.parametrize("name", TOOLS)
 def test_the_page_of_a_tool_has_each_option_and_all_that_its_help_says(
     package: Package, name: str, room: Path
@@ -107,19 +81,6 @@ def test_desk_http_7_has_each_route_and_each_refusal(package: Package, room: Pat
         if not re.search(rf"^ *{number}  *{name}( |$)", said, re.M)
     ]
     assert refusals and lacking == []
-
-
-def test_the_chapters_and_the_examples_have_the_port_of_the_service(
-    package: Package, room: Path
-) -> None:
-    service = package.text(f"usr/lib/systemd/system/{NAME}.service")
-    port = re.findall(r"^Environment=PORT=(\d+) ", service, re.M)[0]
-    assert int(port) < 1024, "any user can take it"
-    page = " ".join(shown(source(package, PAGES[3], room)).split())
-    assert f"at port {port} of 127.0.0.1" in page
-    examples = f"usr/share/doc/{NAME}/examples"
-    assert f"server 127.0.0.1:{port};" in package.text(f"{examples}/nginx.conf")
-    assert f" dport {{ {port}, 881 }} " in package.text(f"{examples}/desk.nft")
 
 
 @pytest.mark.parametrize("typed, wanted", [

@@ -3,7 +3,6 @@ records fit."""
 from __future__ import annotations
 
 import filecmp
-import hashlib
 import os
 import re
 import shutil
@@ -94,16 +93,6 @@ def test_its_name_has_the_version_and_the_commit_below_the_release(
 # ---- what is in it
 
 
-def test_the_sums_are_those_of_its_files(package: Package) -> None:
-    sums = (package.control / "md5sums").read_text().splitlines()
-    found = {
-        name: hashlib.md5(data).hexdigest() for name, data in files(package.root).items()
-        if not (package.root / name).is_symlink()
-    }
-    due = dict(line.split("  ")[::-1] for line in sums)
-    expect({name: found.get(name) for name in due}, due, "md5sums")
-
-
 def test_the_program_is_the_named_one_and_readme_has_its_record(
     tree: Copy, package: Package
 ) -> None:
@@ -137,18 +126,6 @@ def test_a_link_of_an_installed_page_leads_to_a_file_beside_it(
     lost = [f"{page.name}: {link}" for page, link in links
             if ":" not in link and not (page.parent / link).is_file()]
     expect(lost, [], "links to nothing")
-
-
-def test_each_script_is_one_of_sh(package: Package) -> None:
-    scripts = sorted(package.control.glob("p*"))
-    assert [one.name for one in scripts] == ["postinst", "postrm", "preinst", "prerm"]
-    for script in scripts:
-        quiet("sh", "-n", script)
-
-
-@pytest.mark.parametrize("tool", ["desk-publish", "desk-standby", "kovelamiru-mirror"])
-def test_a_tool_beside_the_program_runs_from_its_place(package: Package, tool: str) -> None:
-    assert ran(package.root / "usr/bin" / tool, "--help")
 
 
 @pytest.mark.if_there("root")

@@ -1,12 +1,9 @@
 """The service of the package: its users, its units, its port, who connects to it, and the demo."""
 from __future__ import annotations
 
-import os
 import re
 import shutil
-import signal
 import subprocess
-import urllib.request
 from pathlib import Path
 from typing import Iterator
 
@@ -15,7 +12,7 @@ import pytest
 from checks.packaging.conftest import NAME, Package
 from checks.support.images import OWNER
 from checks.support.says import fail
-from checks.support.tools import ROOT, end_with_parent, ran
+from checks.support.tools import end_with_parent, ran
 from checks.support.waits import until
 
 UNITS = "usr/lib/systemd/system"
@@ -170,31 +167,3 @@ def test_the_rules_let_root_and_the_proxy_connect_and_nobody_else(
         assert network.connects(user) == "", user
     for user in ("nobody", "daemon"):
         assert network.connects(user).startswith("ConnectionRefusedError"), user
-
-
-# ---- the demo
-
-
-@pytest.mark.needs("curl", "nginx")
-def test_the_demo_serves_the_page_and_names_the_packages_program(
-    package: Package, room: Path
-) -> None:
-    said = room / "said"
-    with open(said, "wb") as out:
-        demo = subprocess.Popen(
-            [package.root / "usr/bin/desk-demo"], stdout=out, stderr=subprocess.STDOUT,
-            env={**os.environ, "TMPDIR": str(room)}, preexec_fn=end_with_parent,
-        )
-    try:
-        until(
-            280, "It shows ", lambda: "\nIt shows " in said.read_text() or demo.poll() is not None,
-            said.read_text,
-        )
-        assert demo.poll() is None, said.read_text()
-        assert "\nIt shows the package's program" in said.read_text(), said.read_text()
-        with urllib.request.urlopen(said.read_text().split()[0], timeout=60) as answer:
-            assert answer.read() == (ROOT / "page/index.html").read_bytes()
-    finally:
-        demo.send_signal(signal.SIGTERM)
-        demo.wait(60)
-    until(20, "the demo's folder is gone", lambda: [one.name for one in room.iterdir()] == ["said"])

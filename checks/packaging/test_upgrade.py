@@ -132,11 +132,6 @@ def serves(request: pytest.FixtureRequest, machine: Machine) -> bool:
     return bool(request.param != "inactive")
 
 
-def test_where_no_desk_is_an_installation_does_nothing(empty: Machine) -> None:
-    empty.ends(("preinst", "install"))
-    empty.ends(("postinst", "configure", ""))
-
-
 # ---- the desk
 
 
@@ -206,13 +201,6 @@ def test_it_goes_on_where_the_old_postinst_knows_of_none(machine: Machine) -> No
     machine.ends(("postrm", "abort-upgrade", "0.0.9", "0.1.0"), f"start {STANDBY}")
     machine.forgets()
     machine.ends(("postinst", "abort-upgrade", "0.1.0"))
-
-
-def test_a_run_that_no_timer_began_is_not_begun_again(machine: Machine) -> None:
-    machine.unit("kovelamiru-standby.service", "activating")
-    machine.ends(UPGRADE, "stop kovelamiru-standby.service")
-    machine.ends(("postinst", "abort-upgrade", "0.1.0"))
-    machine.forgets()
 
 
 # ---- nginx

@@ -9,6 +9,7 @@ from selenium.webdriver.common.keys import Keys
 
 from checks.page.conftest import shots
 from checks.page.looked import looked
+from checks.page.plain_day import TINY
 from checks.page.site import CERTIFICATE, Site, signed, unsigned
 from checks.support.browser import Browser
 from checks.support.cases import SIGNER
@@ -163,3 +164,22 @@ def test_what_was_submitted_before_is_told_where_it_is_chosen(
     browser.fill("Title", "again")
     browser.press("Submit")
     browser.sees("This is request 6.")
+
+
+def test_each_person_sees_who_is_signed_in_and_whats_ones_own(browser: Browser, site: Site) -> None:
+    """One's own proposal and request are told at once, and can't be decided."""
+    number = site.proposes("9" * 64, "olga")
+    request = site.submits(TINY, "one's own", "rita")
+    roles = {"ann": "submitter", "rita": "reviewer", "sid": "signer", "olga": "officer"}
+    for name, role in roles.items():
+        browser.sign_in(token(name))
+        browser.sees(f"{name}, {role}")
+    browser.go(f"proposals/{number}")
+    browser.sees("You proposed it, so another officer has to confirm it.")
+    assert "Confirm…" not in browser.texts("button")
+    browser.go("proposals")
+    browser.sees("olga (you)")
+    browser.sign_in(token("rita"))
+    browser.go(f"requests/{request}")
+    browser.sees("You submitted this request, so another reviewer has to vote.")
+    assert "Vote yes" not in browser.texts("button")

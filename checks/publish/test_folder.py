@@ -6,13 +6,11 @@ import os
 import re
 import stat
 
-import pytest
 
 from checks.publish.place import SUMMED, Place, key_of, number
 from checks.support.images import sha256
 from checks.support.says import expect
 from checks.support.steps import named
-from checks.support.tools import ROOT
 
 SIGNS = ("--sign", "./sign", "--key", "publisher")
 
@@ -24,13 +22,6 @@ def news(place: Place, digest: int) -> None:
 
 def test_the_first_publication_takes_its_word(place: Place) -> None:
     place.publish(3, "takes --first")
-    assert not os.path.lexists(place.link)
-
-
-def test_a_desk_without_an_audit_publishes_nothing(place: Place) -> None:
-    text = '[ "$1" != audit ] || { echo no such subcommand >&2; exit 2; }'
-    older = place.script("older", f'{text}\nexec {place.desk.path} "$@"')
-    place.publish(3, "desk audit: no such subcommand", "--first", "--program", older)
     assert not os.path.lexists(place.link)
 
 
@@ -119,9 +110,3 @@ def test_public_minutes_are_hidden_once_they_are_no_more_public(signed: Place) -
     signed.publish(0, "calls 12: nothing new")
     modes = {stat.S_IMODE(one.stat().st_mode) for one in signed.out.glob("*.20*/minutes.txt")}
     expect((len(list(signed.out.glob("*.20*/minutes.txt"))), modes), (3, {0o600}), "modes")
-
-
-@pytest.mark.parametrize("line", ("TimeoutStartSec=10min", "SocketBindDeny=any"))
-def test_the_unit_ends_a_run_that_hangs_and_takes_no_port(line: str) -> None:
-    unit = ROOT / "packaging" / "kovelamiru-publish.service"
-    assert line in unit.read_text().splitlines()

@@ -39,15 +39,6 @@ def test_a_line_that_is_none_changes_nothing(signed: Place, standby: Standby) ->
     standby.has(ALL + 2, true)
 
 
-def test_a_first_line_that_is_none_is_refused(signed: Place, shown: Shown) -> None:
-    standby = Standby(signed)
-    wrong = Shown(signed.desk, signed.db)
-    wrong.lines = [b"1\tgarbage\n"]
-    standby.follows(wrong, 1, "refused 47 Minute at 1\n")
-    assert standby.minutes.read_bytes() == b""
-    standby.follows(shown, 0, f"calls {ALL}\n")
-
-
 def test_a_run_that_was_stopped_before_its_file_had_the_lines(
     signed: Place, standby: Standby, shown: Shown
 ) -> None:

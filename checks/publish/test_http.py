@@ -30,12 +30,6 @@ def by(url: str, path: str) -> tuple[str, ...]:
     return ("--url", url, "--token-file", path)
 
 
-def test_a_desk_that_serves_is_published(signed: Place, serve: Callable[..., Server]) -> None:
-    url = f"http://127.0.0.1:{serve(signed.db).port}"
-    of = by(url, private_token(signed, "olga"))
-    signed.publish(0, "calls 11: nothing new", of=of)
-
-
 def test_its_new_calls_are_published(signed: Place, serve: Callable[..., Server]) -> None:
     given = signed.proposes("olga", "/dbx/digests", named(number(3)))
     server = serve(signed.db)

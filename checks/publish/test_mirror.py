@@ -107,14 +107,6 @@ def test_a_site_whose_answer_never_ends_is_a_fault(desk: Program, way: str) -> N
                     by=mirror.place.changed("quick", edit, tool=MIRROR))
 
 
-def test_only_what_changed_is_fetched(mirror: Mirror) -> None:
-    again(mirror.place, 5)
-    mirror.runs(0, ": mirrored in published.2")
-    mirror.shows(12)
-    fetched = {one.rpartition("/")[2] for one in mirror.asked}
-    assert "audit.txt" in fetched and not {"dbx.esl", "level.csv"} & fetched, fetched
-
-
 def test_the_first_copy_takes_its_word(mirror: Mirror) -> None:
     mirror.link.unlink()
     mirror.runs(3, "isn't there: the first copy takes --first")
@@ -184,16 +176,6 @@ def test_a_damaged_copy_is_made_anew(mirror: Mirror) -> None:
     expect([one.rpartition("/")[2] for one in mirror.asked][2:], ["dbx.esl"], "what is fetched")
     mirror.runs(0, ": nothing new")
     expect(mirror.left(), [], "what is left")
-
-
-def test_it_says_how_far_it_is(mirror: Mirror) -> None:
-    """Ten seconds are none here."""
-    edit = ("publish/mirror.py", r"= 3600, 1 << 30, 10\.0$", "= 3600, 1 << 30, 0.0")
-    quick = mirror.place.changed("quick", edit, tool=MIRROR)
-    again(mirror.place, 5)
-    said = mirror.runs(0, ": fetching\n", by=quick)
-    size = (mirror.place.link / "index.html").stat().st_size
-    assert f"  index.html: {size:,} bytes so far\n  index.html: {size:,} bytes\n" in said, said
 
 
 @pytest.mark.long(60)

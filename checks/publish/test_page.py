@@ -2,18 +2,14 @@
 checkpoint is looked at as docs/AUDIT.md says."""
 from __future__ import annotations
 
-import json
 import os
 import re
 import shutil
 import subprocess
-from pathlib import Path
 
 import pytest
 
-from checks.publish.place import (
-    PUBLISH, SIGNERS, Place, Stage, made_certificate, number, publisher, tbs_of,
-)
+from checks.publish.place import SIGNERS, Place, Stage, made_certificate, number, publisher, tbs_of
 from checks.publish.reading import reads
 from checks.support.images import digest, sha256
 from checks.support.messages import token
@@ -107,10 +103,10 @@ def test_two_runs_with_one_date_make_the_same_bytes(page: Place) -> None:
     words = (*KEY, "--public-minutes")
     shutil.copytree(page.out, page.room / "first", symlinks=True)
 
-    def run(by: Path = PUBLISH) -> dict[str, bytes]:
+    def run() -> dict[str, bytes]:
         shutil.rmtree(page.out)
         shutil.copytree(page.room / "first", page.out, symlinks=True)
-        page.publish(0, ": published", *words, by=by)
+        page.publish(0, ": published", *words)
         return files()
 
     def files() -> dict[str, bytes]:
@@ -122,54 +118,6 @@ def test_two_runs_with_one_date_make_the_same_bytes(page: Place) -> None:
     expect(run(), first, "the second run")
     page.publish(0, ": nothing new", *words)
     expect(files(), first, "after a run with nothing new")
-    late = ("publish/page.py", "<title>", "<title>{__import__('time').time_ns()} ")
-    assert run(page.changed("late", late)) != first, "a page with the moment isn't seen"
-
-
-# A slip in what writes them: what is found, a pattern in page.py, and the text in its place.
-MINUTES = "{now.found.minutes.decode()}"
-SLIPS = [
-    ("an element script", r"<code>\{escape\(name\)\}<", "<code>{name}<"),
-    ("index.html has [", r'\["<h1>Secure Boot lists', f'[f"<h1>{MINUTES}'),
-    ("dbx.json has [", r"spelled\(day\(now.date\)\)", "spelled(now.found.minutes.decode())"),
-    ("dbx.json has markup", r'\.replace\("<", .*\)$', ""),
-    ("dbx.json:", r"old\[entry\] if entry in old else day\(now.date\)", "day(now.date)"),
-    ("dbx.json:", r'"since", spelled\(since\)', '"since", spelled(None)'),
-    ("the table of lists:", r"\{len\(has - had\):,\}", "{len(has):,}"),
-    ("the table of lists:", r"\{len\(had - has\):,\}", "0"),
-    ("the changes of the level:", r'f"raised from \{old\[name\]\}"', '""'),
-    ("what is new:", "^NAMED = 100", "NAMED = 101"),
-    ("what is new:", r" if entry not in old\]$", "]"),
-    ("what the audit prints:", r"now.audit.decode\(\).rstrip\(\)", "now.audit.decode()[:20]"),
-    ("no date ", r"\[11:19\]", "[11:16]"),
-    ("a link to minutes.html", r'\("dbx.json", "dbx for', '("minutes.html", "dbx for'),
-    ("what is said of others:", r" if now.public_minutes else \[\]\)", ")"),
-    ("whether it promises to find", "checks all of them", "finds a damaged file, but no mirror that"
-     " lies"),
-    ("the policy ", r"\{style\}", "x"),
-]
-
-
-@pytest.mark.parametrize("says, pattern, text", SLIPS)
-def test_a_slip_in_what_writes_them_is_found(
-    page: Place, says: str, pattern: str, text: str
-) -> None:
-    made = page.changed("slip", ("publish/page.py", pattern, text))
-    page.publish(0, ": published", *KEY, by=made)
-    with pytest.raises(AssertionError, match=re.escape(says)):
-        reads_now(page)
-
-
-def test_what_was_published_before_there_was_a_dbx_json_has_no_date(page: Place) -> None:
-    for name in ("index.html", "dbx.json"):
-        (page.link / name).unlink()
-    sums = re.sub(".*  (index.html|dbx.json)\n", "", page.sums())
-    (page.link / "SHA256SUMS").write_text(sums)
-    page.publish(0, ": published")
-    reads_now(page)
-    rows = json.loads((page.link / "dbx.json").read_text())["dbx"]
-    firsts = [one["first_published"] for one in rows]
-    assert (len(firsts), firsts.count(None)) == (123, 3)
 
 
 # ---- the checkpoint

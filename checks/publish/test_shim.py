@@ -88,13 +88,6 @@ def test_it_is_what_efitools_makes_of_the_same_certificates(
     expect(read, {der(place, one) for one in ("stays", "gone", "late")}, "by efitools")
 
 
-def test_both_bodies_of_a_certificate_are_in_it(news: Place) -> None:
-    news.publish(0, ": published")
-    published = (news.link / "shim-dbx.esl").read_bytes()
-    counts = {one: published.count(der(news, one)) for one in (*NAMES, "spoilt")}
-    expect(counts, {**dict.fromkeys(counts, 1), "never": 0, "good": 0}, "bodies")
-
-
 # ---- slips
 
 

@@ -10,7 +10,6 @@ from checks.publish.place import Place, made_certificate, number
 from checks.support.says import expect
 from checks.support.steps import named
 from checks.support.tools import ran
-from kovelamiru.update import efi_time
 
 pytestmark = pytest.mark.needs("openssl", "sign-efi-sig-list", "ssh-keygen")
 QUICK = ("programs.py", "^(PROGRAM_SECONDS, SIGNING_SECONDS =) 300, 120$", r"\1 300, 2")
@@ -73,35 +72,6 @@ def test_an_update_that_no_firmware_takes_is_refused(signed: Place, time: str, s
     signed.shows(11)
 
 
-def test_the_update_before_may_be_some_publications_ago(signed: Place) -> None:
-    """Which had none."""
-    for one in (9, 10):
-        signed.proposes("olga", "/dbx/digests", named(number(one)))
-        signed.publish(0, ": published")
-    signed.proposes("olga", "/dbx/digests", named(number(11)))
-    words = ("--sign", dated(signed, "late", "-t '2020-01-01 00:00:00'"))
-    signed.publish(1, "its time 2020-01-01 00:00:00 isn't after 20", *words)
-
-
-def test_an_update_of_the_same_second_is_of_the_same_list(signed: Place) -> None:
-    """Firmware takes no other one: its time isn't later."""
-    was = efi_time((signed.link / "db.auth").read_bytes())
-    words = ("--sign", dated(signed, "same", f"-t '{was}'"))
-    signed.proposes("olga", "/dbx/digests", named(number(9)))
-    signed.publish(0, "calls 12: published", *words)
-    signed.revokes(number(3))
-    signed.publish(1, f"its time {was} isn't after {was}, that of the update before", *words)
-
-
-def test_a_time_that_is_none_is_refused(news: Place) -> None:
-    """Its field TimeZone isn't 0."""
-    spoils = 'printf x | dd of="$3" bs=1 seek=12 conv=notrunc status=none'
-    zone = f'"${{0%/*}}"/sign "$@" && {spoils}'
-    says = "refused signature: firmware would refuse what dbx was signed as: its time is none"
-    news.publish(1, says, "--sign", news.script("zone", zone))
-    news.shows(11)
-
-
 OURS = ("--kek", "KEK.pem")
 
 
@@ -125,11 +95,6 @@ def test_an_update_that_only_appends_needs_no_time(news: Place) -> None:
     expect((news.link / "dbx.auth").read_bytes()[:16], bytes(16), "its time")
     news.proposes("olga", "/dbx/digests", named(number(10)))
     news.publish(0, "calls 13: published", "--sign", "./sign")
-
-
-def test_a_key_that_is_not_there_publishes_nothing(news: Place) -> None:
-    news.publish(3, "ssh-keygen signs nothing with", "--sign", "./sign", "--key", "none")
-    news.shows(11)
 
 
 def test_nothing_but_its_update_is_taken_of_a_command(news: Place) -> None:

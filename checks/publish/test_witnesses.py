@@ -170,27 +170,6 @@ def test_a_signature_of_another_key_or_for_another_use_is_none(signed: Place, on
     assert not {*named(one)} & signed.named()
 
 
-def test_another_key_publishes_again(signed: Place) -> None:
-    signed.publish(0, "calls 11: nothing new", "--key", "publisher")
-    made_key(signed.room, "another")
-    signed.publish(0, "calls 11: published", "--key", "another")
-    signed.publish(0, "calls 11: nothing new", "--key", "another")
-
-
-@pytest.mark.parametrize("text, says", (
-    ("one\n", "no witness is 'one'"), ("../x - ssh-ed25519 AAAA\n", "no witness is '../x - ssh"),
-    ("{0}{0}", "two witnesses have one name or one key"),
-))
-def test_a_list_that_is_none_is_said(signed: Place, one: Witness, text: str, says: str) -> None:
-    words = listed(signed, one)
-    path = signed.room / "witnesses"
-    path.write_text(text.format(path.read_text()))
-    signed.revokes(number(3))
-    signed.publish(2, says, *words)
-    path.chmod(0o666)
-    signed.publish(2, "others can write witnesses", *words)
-
-
 class Mirror:
     """One that asks for a witness."""
 
