@@ -12,11 +12,10 @@ from checks.support.between import NO_ANSWER, Between, instead
 from checks.support.client_day import ODD, SIGNED
 from checks.support.deskctl import NO_TERMINAL, Office
 from checks.support.images import PLAIN, TABLE, authenticode, changed, with_table
-from checks.support.messages import posted, said
+from checks.support.messages import posted
 from checks.support.says import expect
 from checks.support.steps import named, vote
 
-JSON = "application/json"
 BARRED = PLAIN + bytes(8)
 POSTS: list[tuple[str, str, bytes, str]] = [
     ("ann", "/requests", PLAIN, "linux 6.12.1-1 amd64"),
@@ -112,33 +111,6 @@ def test_votes_end_at_the_first_that_is_refused(filled: Office) -> None:
     assert "It stopped" not in alone, alone
     filled.refuses("sid", "review 2 4 no", "refused 21 NotYourRole", "is for reviewers",
                    "It stopped at request 2. This run recorded no vote, and sent", status=1)
-
-
-@pytest.mark.parametrize("status, number, name, left", [
-    (404, 23, "NoSuchRequest", "3"), (409, 24, "WrongState", "3"), (409, 25, "OwnRequest", "3"),
-    (409, 26, "AlreadyReviewed", "3"), (412, 49, "Mismatch", "1 3"), (409, 36, "Full", ""),
-])
-def test_what_is_left_is_what_may_take_the_vote(
-    filled: Office, between: Between, status: int, number: int, name: str, left: str
-) -> None:
-    """A number that is another file by then may, once it was looked at; at a full desk none."""
-    raul = filled["raul"].at(between.url)
-    refused = instead(status, said({"name": name, "refused": number}), JSON)
-    between.loses = [lambda request, ask: ask(request), refused]
-    found = raul.run("review 2 1 3 yes")
-    expect((found.status, found.out), (1, "request 2 reviewed: open\n"), "how it ends")
-    assert f"refused {number} {name}: " in found.err, found.err
-    assert f"{STOPPED} request 3.\n" in found.err, found.err
-    assert ("is another file now" in found.err) == (number == 49), found.err
-    expect([line.split(": ")[1] for line in found.err.splitlines() if LEFT in line],
-           [left] if left else [], "what is left")
-    expect(([path for path, _ in tags(between)], raul.pending()),
-           (["/requests/2/review", "/requests/1/review"], []), "what went out, the journal")
-    if left:
-        raul.does(f"review {left} yes", *(f"request {at} reviewed" for at in left.split()))
-    on = {2, *map(int, left.split())}
-    expect(votes(filled), {at: f"open {int(at in on)}" for at in (1, 2, 3, 4)}, "the votes")
-    filled.once(len(POSTS) + len(on))
 
 
 def test_a_lost_answer_keeps_the_keys_of_all_and_each_acts_once(

@@ -1,126 +1,30 @@
 """The limits of docs/FORMATS.md: at each the greatest that is allowed is taken, and one more
 refused.
 
-Over HTTP, and on the command line where there is a subcommand for it: levels and imports; names,
-tokens, keys, titles, notes and numbers; bodies and parts of the minutes. Memory is ample, so
-nothing is NoMemory. Limits of heads are in test_cuts.py, of images in test_limits_of_images.py, and
-full desks in test_full_desks.py."""
+Over HTTP, and on the command line where there is a subcommand for it: names, tokens, keys, titles,
+notes and numbers; bodies and parts of the minutes. Memory is ample, so nothing is NoMemory. Limits
+of heads are in test_cuts.py, of images in test_limits_of_images.py, full desks in
+test_full_desks.py; an import of 10,000 entries and of one more is on the largest of the days."""
 from __future__ import annotations
-
-from typing import NamedTuple, Sequence
 
 import pytest
 
 from checks.conftest import NewDesk
-from checks.support.images import (
-    CERTIFICATE, PLAIN, STORED, X509_KIND, certificate_list, digest, digest_list, sha256,
-    signature_list
-)
-from checks.support.largest import MANY, der
+from checks.support.images import CERTIFICATE, PLAIN, X509_KIND, digest, sha256, signature_list
+from checks.support.largest import der
 from checks.support.messages import Field, octets, ok, posted, refused, request, text, token
 from checks.support.program import Program
 from checks.support.server import serves
 from checks.support.steps import (
-    Component, Step, confirms, drops, impact, named, proposes, raising, reads, refuses, submits,
-    takes, too_large, vote, whole
+    Step, confirms, drops, named, proposes, raising, reads, refuses, submits, takes, too_large,
+    vote, whole,
 )
 
 BODY_LIMIT = 4_194_304
 
 
-def sbat_rows(count: int, generation: int = 1, length: int = 0) -> list[str]:
-    """Names and a generation, each name so long or longer."""
-    return [f"n{number:05}".ljust(length, "x") + f",{generation}" for number in range(1, count + 1)]
-
-
 def csv(rows: list[str]) -> bytes:
     return "\n".join(["kind,value,generation", *rows, ""]).encode()
-
-
-def level(rows: list[str], stamp: int = 2024010100) -> bytes:
-    return "\n".join([f"sbat,1,{stamp}", *rows, ""]).encode()
-
-
-# ---- imports
-
-
-def skipped(count: int) -> bytes:
-    """One list of so many entries of another type."""
-    return signature_list(STORED, [bytes.fromhex(one) for one in MANY[:count]])
-
-
-TEN, STAMP = 10_000, ("Desk-Stamp", "2024010100")
-NAMES_128 = sbat_rows(TEN, 4294967295, 128)
-ONE = digest_list(MANY[:1])
-
-
-class Import(NamedTuple):
-    """An import of 10,000 entries, and one of an entry more; what the first names, and how often it
-    passes one."""
-
-    path: str
-    body: bytes
-    longer: bytes
-    digests: Sequence[str] = ()
-    certificates: Sequence[str] = ()
-    components: Sequence[Component] = ()
-    fields: Sequence[Field] = ()
-    passed: int = 0
-
-
-def components(rows: list[str]) -> list[Component]:
-    return [(name, int(generation)) for name, generation in (row.split(",") for row in rows)]
-
-
-IMPORTS = {
-    "digests": Import("/imports/dbx", digest_list(MANY[:TEN]), digest_list(MANY), MANY[:TEN]),
-    "certificates": Import(
-        "/imports/dbx", certificate_list(MANY[:TEN]), certificate_list(MANY),
-        certificates=MANY[:TEN],
-    ),
-    "entries that are skipped": Import(
-        "/imports/dbx", ONE + skipped(TEN - 1), ONE + skipped(TEN), MANY[:1], passed=TEN - 1
-    ),
-    "records": Import(
-        "/imports/csv", csv([f"sha256,{one}," for one in MANY[:TEN]]),
-        csv([f"x509_sha256,{one}," for one in MANY]), MANY[:TEN],
-    ),
-    "records with names of 128 bytes": Import(
-        "/imports/csv", csv([f"sbat,{row}" for row in NAMES_128]),
-        csv([f"sbat,{row}" for row in sbat_rows(TEN + 1, 2, 128)]),
-        components=components(NAMES_128), fields=(STAMP,),
-    ),
-    "lines of a level": Import(
-        "/imports/level", level(sbat_rows(TEN, 7)), level(sbat_rows(TEN + 1, 7)),
-        components=components(sbat_rows(TEN, 7)),
-    ),
-}
-
-
-@pytest.mark.long(30)
-@pytest.mark.parametrize("what", IMPORTS)
-def test_an_import_of_10_000_entries_is_confirmed_and_one_of_10_001_changes_nothing(
-    desk: Program, new_desk: NewDesk, what: str
-) -> None:
-    one = IMPORTS[what]
-    counts = len(one.digests), len(one.certificates), len(one.components)
-    dbx = digest_list(one.digests) + certificate_list(one.certificates)
-    names = one.digests, one.certificates, one.components
-    stamp = 2024010100 if one.components else None
-    shown = whole(1, "olga", "import", "open", *names, stamp=stamp, passed=one.passed)
-    steps = [
-        refuses(13, "olga", "k1", one.path, one.longer, *one.fields),
-        reads("olga", "/proposals", ok([])),
-        proposes("olga", "k1", one.path, one.body, 1, *one.fields),
-        reads("otto", "/proposals/1", ok(shown)),
-        reads("otto", "/proposals/1/impact", ok(impact(1, [], len(dbx), *counts))),
-        confirms("otto", "k1", 1, *counts, one.passed),
-        reads("ann", "/dbx", octets(dbx)),
-    ]
-    if one.components:
-        rows = level([f"{name},{most}" for name, most in one.components])
-        steps.append(reads("ann", "/level", text(rows.decode())))
-    serves(desk, new_desk(), steps, f"10,000 {what}", ends=False)
 
 
 # ---- texts

@@ -9,8 +9,7 @@ from pathlib import Path
 import pytest
 
 from checks.conftest import NewDesk
-from checks.support.images import OWNER, SHA256_KIND, STORED, sha256, signature_list
-from checks.support.messages import token
+from checks.support.images import OWNER, SHA256_KIND, STORED, signature_list
 from checks.support.program import Program, Ran
 from checks.support.says import expect
 from checks.support.server import Server
@@ -29,7 +28,6 @@ component grub 3
 ZEROS = b"0" * 64 + b"\n"
 REFUSED_FILE = "refused 1 Short", "refused 1 Short", "refused 15 List at 0"
 READERS = ("ranges", "facts", "list")
-TOO_LONG = b"refused 13 TooLong\n"
 
 
 def test_pack_writes_a_list_of_the_digests_ascending_and_once(desk: Program) -> None:
@@ -72,18 +70,6 @@ def test_words_that_are_wrong(desk: Program) -> None:
     desk.ends(2, b"", b"error: a word is no UTF-8\n", "list", os.fsdecode(b"\xff"))
 
 
-def test_files_past_134_217_728_bytes_and_lines_past_8_mib_are_refused(desk: Program) -> None:
-    """At that length they are read."""
-    long = desk.file("long", b"")
-    os.truncate(long, 134_217_729)
-    for subcommand in READERS:
-        desk.ends(1, b"", TOO_LONG, subcommand, long)
-    os.truncate(long, 134_217_728)
-    desk.ends(1, b"", b"refused 15 List at 0\n", "list", long)
-    given = b"no image".ljust(8_388_609, b"\0")
-    desk.ends(1, b"", TOO_LONG, "pack", OWNER, given=given)
-
-
 def test_why_a_file_was_not_opened_is_told(desk: Program, new_desk: NewDesk) -> None:
     path, missing, text = new_desk(), desk.at("missing"), desk.file("text", b"no database")
     held = "another program has it open, or it is no SQLite database"
@@ -102,31 +88,6 @@ def test_why_a_file_was_not_opened_is_told(desk: Program, new_desk: NewDesk) -> 
     with Server(desk, path):
         told = f"device 45 File\n{path}: {held}\n".encode()
         expect(desk.run("level", path), Ran(3, b"", told), "of a served desk")
-
-
-def there(room: Path) -> set[str]:
-    return {one.name for one in room.rglob("*") if one.is_file()}
-
-
-def test_a_desk_is_its_file_and_log_and_only_init_makes_one(desk: Program) -> None:
-    missing = desk.at("ann.db")
-    for words in (("db",), ("dbx",), ("level",), ("minutes",), ("answer",), ("impact", "1")):
-        desk.ends(3, b"", b"device 45 File\n", words[0], missing, *words[1:])
-    desk.ends(3, b"", b"device 45 File\n", "serve", missing, "20000", "1")
-    given = f"{token('ann')}\n".encode()
-    person = ("person", missing, "ann", "officer", "k1")
-    desk.ends(3, b"", b"device 45 File\n", *person, given=given)
-    desk.ends(3, b"", b"device 45 File\n", "verdict", missing, SIGNED)
-    expect(there(desk.room), set(), "files that were made")
-    for name in ("ann.db", "bea.db"):
-        desk.ends(0, b"", b"", "init", desk.at(name), OWNER)
-    desk.ends(0, b"added ann\n", b"", *person, given=given)
-    hashed = sha256(token("ann").encode())
-    line = f"1\tconsole\tk1\tadd-person ann officer {hashed}\tadded ann\n"
-    expect(desk.minutes(missing), line.encode(), "the minutes of ann.db")
-    expect(desk.minutes(desk.at("bea.db")), b"", "the minutes of bea.db")
-    files = {f"{name}.db{ending}" for name in ("ann", "bea") for ending in ("", "-wal")}
-    expect(there(desk.room), files, "the files of two desks")
 
 
 def test_the_files_of_a_desk_are_for_their_user_alone_whatever_the_mask(desk: Program) -> None:

@@ -153,45 +153,6 @@ def test_each_word_that_a_readme_says_a_contract_sees_is_in_a_source() -> None:
     holds(words, missing, "word of what a contract sees")
 
 
-def items_of(decisions: str) -> set[str]:
-    """The items, and those in the table of items that moved."""
-    moved = decisions.split("\n## Moved or gone\n", 1)[1]
-    rows = [row.split("|")[1] for row in re.findall(r"^\|.*", moved, re.M)]
-    items = {*re.findall(r"^\*\*([0-9]+)\. ", decisions, re.M)}
-    items |= {*re.findall(r"\b[0-9]+\b", " ".join(rows))}
-    for first, last in re.findall(r"\b([0-9]+) to ([0-9]+)\b", moved):
-        items |= {str(number) for number in range(int(first), int(last) + 1)}
-    return items
-
-
-def test_each_item_that_a_page_or_an_item_cites_stands_in_decisions() -> None:
-    decisions = text_of("docs/DECISIONS.md")
-    cited = {
-        ("docs/DECISIONS.md", number)
-        for group in re.findall(r"\(([0-9]+(?:, [0-9]+)*)\)", decisions)
-        for number in group.split(", ")
-    }
-    for path in ROOT.rglob("*.md"):
-        for number in re.findall(r"DECISIONS(?:\.md)?[ ,]+([0-9]+)", text_of(path)):
-            cited.add((str(path.relative_to(ROOT)), number))
-    items = items_of(decisions)
-    missing = [f"{path} cites {no}" for path, no in sorted(cited) if no not in items]
-    holds(cited, missing, "cited item")
-
-
-# ---- docs/TESTS.md
-
-
-def test_each_test_of_a_crate_that_tests_md_names_is_there() -> None:
-    """It is a word with two underscores or more."""
-    tests = {
-        name for path in ROOT.glob("crates/tests_*/src/**/*.rt")
-        for name in re.findall(r"\bfn ([a-z_0-9]+)", text_of(path))
-    }
-    named = [one for one in quoted(TESTS) if re.fullmatch("[a-z0-9]+(_[a-z0-9]+){2,}", one)]
-    holds(named, [name for name in named if name not in tests], "test of a crate")
-
-
 # ---- the files of checks/ that pages name
 
 

@@ -18,14 +18,13 @@ import pytest
 
 from checks.conftest import NewDesk
 from checks.support.images import PLAIN, digest, digest_list
-from checks.support.days import TWO_OFFICERS
 from checks.support.messages import ok, response, said, text
 from checks.support.program import Program, Ran
 from checks.support.readings import ADDED
 from checks.support.says import expect, fail
 from checks.support.server import Server
 from checks.support.steps import (
-    Step, confirms, impact, judges, lists, minutes, proposes, reads, refuses, submits, vote,
+    Step, confirms, impact, judges, lists, minutes, named, proposes, reads, refuses, submits, vote,
 )
 from checks.support.tools import end_with_parent, library
 
@@ -72,7 +71,8 @@ class Faulty:
         self.given, self.due, self.is_command = CASES[name].step
         self.piece = CASES[name].piece
         if CASES[name].proposed:
-            desk.answers(base, TWO_OFFICERS[0].given, TWO_OFFICERS[0].due, "a proposal")
+            step = proposes("olga", "k1", "/dbx/digests", named(digest("aa")), 1)
+            desk.answers(base, step.given, step.due, "a proposal")
         self.before = desk.minutes(base)
 
     def env(self, **faults: str) -> dict[str, str]:

@@ -3,12 +3,12 @@ answer that is due."""
 from __future__ import annotations
 
 from checks.support.images import (
-    CERTIFICATE, PLAIN, SIGNED, TABLE, TBS, THREE_LISTS, X509_KIND, authenticode, certificate_list,
-    changed, digest, digest_list, sha256, signature_list, with_table
+    CERTIFICATE, PLAIN, SIGNED, TBS, THREE_LISTS, X509_KIND, authenticode, certificate_list,
+    changed, digest, digest_list, sha256, signature_list,
 )
 from checks.support.largest import LARGEST
 from checks.support.messages import octets, ok, refused, text, token
-from checks.support.readings import ODD, READINGS
+from checks.support.readings import READINGS
 from checks.support.reasons import REASONS
 from checks.support.steps import (
     Step, again, closes, confirms, drops, grub, judges, lists, named, proposal, proposes, raising,
@@ -66,31 +66,6 @@ RETURNS = [
     reads("ann", "/dbx", octets(certificate_list([TBS]))),
 ]
 
-# An image whose length isn't a multiple of 8 may be returned as it is, or padded with zeros, which
-# is what a signature holds.
-PADDED = ODD + bytes(3)
-RETURNED_ODD, RETURNED_PADDED = with_table(ODD, TABLE), with_table(PADDED, TABLE)
-PADDING = [
-    submits("ann", "k1", ODD, "A", 1),
-    submits("ann", "k2", ODD, "A", 2),
-    reads("ann", "/requests/2", ok(shown(2, "ann", "A", "open", [], image=ODD))),
-    *(
-        reviews(name, f"k{number}", number, "yes", state)
-        for name, state in (("rita", "open"), ("raul", "approved")) for number in (1, 2)
-    ),
-    takes("olga", "k1", "/db/certificates", CERTIFICATE, {"reply": "listed"}),
-    refuses(27, "sid", "k1", "/requests/1/return", SIGNED),
-    refuses(27, "sid", "k1", "/requests/1/return", changed(RETURNED_PADDED, (1030, "01"))),
-    returns("sid", "k1", 1, RETURNED_ODD),
-    returns("sid", "k2", 2, RETURNED_PADDED),
-    reads("ann", "/requests/1", ok(shown(1, "ann", "A", "signed", YES, sha256(RETURNED_ODD), ODD))),
-    reads(
-        "ann", "/requests/2", ok(shown(2, "ann", "A", "signed", YES, sha256(RETURNED_PADDED), ODD))
-    ),
-    judges("ann", RETURNED_ODD, {"verdict": "allowed"}),
-    judges("ann", RETURNED_PADDED, {"verdict": "allowed"})
-]
-
 # The level rises, and the verdict on an image with a component follows it.
 LEVELS = [
     reads("ann", "/level", text(EMPTY_LEVEL)),
@@ -112,24 +87,6 @@ LEVELS = [
     judges("ann", grub(4294967295), {"verdict": "allowed"})
 ]
 
-# A key stands for one command of its caller.
-KEYS = [
-    submits("ann", "k1", PLAIN, "A", 1),
-    again(
-        "ann", "k1", "/requests", PLAIN, {"reply": "submitted", "request": 1}, ("Desk-Title", "A")
-    ),
-    reads("ann", "/requests", ok([shown(1, "ann", "A", "open", [])])),
-    refuses(22, "ann", "k1", "/requests", PLAIN, ("Desk-Title", "another")),
-    submits("rita", "k1", PLAIN, "A", 2),
-    takes("ann", "k2", "/requests/1/withdraw", b"", {"reply": "withdrawn", "request": 1}),
-    refuses(24, "ann", "k3", "/requests/1/withdraw", b""),
-    refuses(23, "ann", "k3", "/requests/2/withdraw", b""),
-    reads(
-        "rita", "/requests",
-        ok([shown(1, "ann", "A", "withdrawn", []), shown(2, "rita", "A", "open", [])])
-    )
-]
-
 # Signature lists are imported; a second time nothing is new.
 IMPORTED = digest_list([digest("aa")]) + certificate_list([digest("bb")])
 LISTS = [
@@ -144,7 +101,13 @@ LISTS = [
     again("olga", "k1", "/imports/dbx", THREE_LISTS, {"proposal": 1, "reply": "proposed"}),
 ]
 
-# A file of CSV is imported: without a stamp only where it raises nothing.
+# A file of CSV is imported: without a stamp only where it raises nothing. Then a level's text, an
+# entry off the list, a withdrawal, and the report.
+REPORT = {
+    "people": 7, "requests": 1, "open": 0, "approved": 0, "rejected": 0, "withdrawn": 1,
+    "signed": 0, "listed digests": 0, "listed certificates": 0, "revoked digests": 1,
+    "revoked certificates": 0, "level components": 1, "commands": 16, "stamp": 2024010100,
+}
 CSV = f"kind,value,generation\nsha256,{digest('aa')},\nsbat,grub,2\nsbat,grub,3\n".encode()
 FILES = [
     refuses(32, "olga", "k1", "/imports/csv", CSV),
@@ -161,22 +124,15 @@ FILES = [
     reads("ann", "/dbx", octets(digest_list([digest("aa")]))),
     proposes("olga", "k2", "/imports/csv", CSV, 2),
     confirms("otto", "k2", 2, 0, 0, 0, 0),
-    reads("ann", "/level", text("sbat,1,2024010100\ngrub,3\n"))
-]
-
-# One officer proposes, and another one confirms.
-TWO_OFFICERS = [
-    proposes("olga", "k1", "/dbx/digests", named(digest("aa")), 1),
-    reads("ann", "/dbx", octets(b"")),
-    closes(38, "confirm", "olga", "k2", 1),
-    closes(21, "confirm", "ann", "k1", 1),
-    confirms("otto", "k1", 1, 1, 0, 0, 0),
-    reads("ann", "/dbx", octets(digest_list([digest("aa")]))),
-    closes(39, "confirm", "otto", "k2", 1),
-    closes(37, "confirm", "otto", "k2", 2),
-    refuses(30, "olga", "k2", "/dbx/digests", named(digest("aa"))),
-    reads("otto", "/proposals", ok([proposal(1, "olga", "confirmed", digests=1)])),
-    reads("ann", "/proposals", refused(21)),
+    reads("ann", "/level", text("sbat,1,2024010100\ngrub,3\n")),
+    proposes("olga", "k3", "/imports/level", b"sbat,1,2024010101\nshim,4\n", 3),
+    lists("olga", "k4", digest("bb")),
+    takes("olga", "k5", "/db/unlist", named(digest("bb"), kind="digest"), {"reply": "unlisted"}),
+    submits("ann", "k1", PLAIN, "A", 1),
+    takes("ann", "k2", "/requests/1/withdraw", b"", {"reply": "withdrawn", "request": 1}),
+    reads("ann", "/report", refused(21)),
+    reads("olga", "/report", text("".join(
+        f"{name}{value:>{34 - len(name)}}\n" for name, value in REPORT.items()))),
 ]
 
 # Two proposals of one digest, and two of one component: what is refused when it is confirmed stays
@@ -203,34 +159,6 @@ TWO_PROPOSALS = [
                 proposal(4, "olga", "confirmed", components=1)
             ]
         )
-    )
-]
-
-# An entry off the list, digits of either case, a text of a level, keys and numbers at a Confirm,
-# and the report.
-REPORT = {
-    "people": 7, "requests": 0, "open": 0, "approved": 0, "rejected": 0, "withdrawn": 0,
-    "signed": 0, "listed digests": 0, "listed certificates": 0, "revoked digests": 1,
-    "revoked certificates": 0, "level components": 2, "commands": 13, "stamp": 2024010102
-}
-LEFT_OVER = [
-    lists("olga", "k1", digest("bb")),
-    takes("olga", "k2", "/db/unlist", named(digest("bb"), kind="digest"), {"reply": "unlisted"}),
-    proposes("olga", "k3", "/dbx/digests", b'{ "digest" : "' + digest("AA").encode() + b'" }', 1),
-    confirms("otto", "k1", 1, 1, 0, 0, 0),
-    again("olga", "k3", "/dbx/digests", named(digest("aa")), {"proposal": 1, "reply": "proposed"}),
-    reads("ann", "/dbx", octets(digest_list([digest("aa")]))),
-    proposes("olga", "k4", "/imports/level", b"sbat,1,2024010102\ngrub,4\nshim,4\n", 2),
-    closes(22, "confirm", "otto", "k1", 2),
-    closes(37, "confirm", "otto", "k2", "02"),
-    closes(21, "confirm", "rita", "k1", 2),
-    confirms("otto", "k2", 2, 0, 0, 2, 0),
-    closes(39, "drop", "olga", "k5", 2),
-    reads("ann", "/level", text("sbat,1,2024010102\ngrub,4\nshim,4\n")),
-    reads("ann", "/report", refused(21)),
-    reads(
-        "olga", "/report",
-        text("".join(f"{name}{value:>{34 - len(name)}}\n" for name, value in REPORT.items()))
     )
 ]
 
@@ -262,10 +190,9 @@ FIRST_REQUESTS = [
     )
 ]
 
-# By name. Each begins on a desk of the people alone.
+# By name. Each begins on a desk of the people alone. The model (checks/model) has the rest.
 DAYS = {
-    "reviews": REVIEWS, "returns": RETURNS, "padding": PADDING,
-    "levels": LEVELS, "keys": KEYS, "lists": LISTS, "files": FILES, "two officers": TWO_OFFICERS,
-    "two proposals": TWO_PROPOSALS, "reasons": REASONS, "left over": LEFT_OVER,
-    "readings": READINGS, "tags": TAGS, "first requests": FIRST_REQUESTS, "the largest": LARGEST,
+    "reviews": REVIEWS, "returns": RETURNS, "levels": LEVELS, "lists": LISTS, "files": FILES,
+    "two proposals": TWO_PROPOSALS, "reasons": REASONS, "readings": READINGS, "tags": TAGS,
+    "first requests": FIRST_REQUESTS, "the largest": LARGEST,
 }
