@@ -22,8 +22,6 @@ IMAGES = {
 CASES = {case["name"]: row_bytes(LOOKS["parts"], case["bytes"]) for case in LOOKS["signatures"]}
 DERS = {name: row_bytes(LOOKS["parts"], LOOKS["parts"][name])
         for name in ("ca", "between", "leaf", "low", "other", "ec")}
-A_CA = "! It says that it is a CA's"
-SIGNER = "its signer's issuer is listed; the desk compares what the image carries"
 
 
 def test_what_the_desk_cant_read_is_revoked_by_its_digests(office: Office) -> None:
@@ -44,14 +42,6 @@ def at_hand(office: Office) -> None:
     for name, data in DERS.items():
         office.file(f"{name}.der", data)
     office.file("odd.efi", CASES["an unsigned image"] + b"12345")
-
-
-def test_a_verdict_says_that_a_signers_issuer_is_listed(office: Office) -> None:
-    office["olga"].does("list-certificate ca.der --yes", err=[A_CA])
-    ann = office["ann"]
-    ann.ends(4, "verdict signed.efi", f"signed.efi: {SIGNER}.", out=["not-listed"])
-    ann.ends(4, "verdict chain.efi", SIGNER, out=["not-listed"])
-    assert SIGNER not in ann.run("verdict unsigned.efi").err
 
 
 def test_facts_tell_what_an_image_is(office: Office) -> None:

@@ -188,19 +188,6 @@ def test_the_loop_signs_no_other_file_under_an_images_name(signing: Signing) -> 
     assert re.search(r"(?m)^signed +0$", signing.office["olga"].does("report"))
 
 
-@SIGNING
-def test_a_foreign_signature_is_allowed_and_sbverify_refuses_it(signing: Signing) -> None:
-    """It carries the listed certificate beside its own."""
-    signing.office["olga"].does("list-certificate signer.pem --yes")
-    ran("sbsign", "--key", "foreign.key", "--cert", "foreign.pem", "--addcert", "signer.pem",
-        "--output", "foreign.efi", "shimx64.efi", cwd=signing.room)
-    said = "no signature was checked"
-    signing.office["sid"].does("verdict foreign.efi", "allowed", err=[said])
-    done = subprocess.run(["sbverify", "--cert", "signer.pem", "foreign.efi"], check=False,
-                          cwd=signing.room, capture_output=True)
-    assert done.returncode, done
-
-
 # ---- an evening
 
 

@@ -49,42 +49,6 @@ def test_each_role_is_told_once_what_waits_for_it(office: Office, between: Betwe
     tells("otto")
 
 
-def paths(between: Between, person: Person, *lines: str) -> list[str]:
-    """What is asked of the desk by a look that tells these lines."""
-    before = len(between.seen)
-    expect(told(person), [*lines], f"what {person.name} is told")
-    return [head.split(b" ")[1].decode() for head in between.seen[before:]]
-
-
-def test_a_look_asks_for_what_is_new_alone(office: Office, between: Between) -> None:
-    """Where the desk says that nothing changed for that; of a submitter's image that waits also
-    whether it is barred since."""
-    ann, rita, sid = (office[name].at(between.url) for name in ("ann", "rita", "sid"))
-    changes, bars = ["/me", "/changes"], ["/level", "/dbx"]
-    small = [*changes, "/waiting"]
-    for _ in range(2):
-        ann.does("submit plain.efi --title 'seen'")
-    expect(paths(between, ann), [*small, "/requests/from/3", *bars], "the first")
-    for name in ("rita", "raul"):
-        office[name].does("review 1 yes --yes")
-    paths(between, sid, "request 1 of ann waits for its signed file: seen")
-    expect(paths(between, sid), changes, "nothing changed")
-    office["rita"].does("submit odd.efi --title 'more'")
-    expect(paths(between, sid), [*small, *bars], "something else changed")
-    paths(between, rita, "request 2 of ann waits for your review: seen")
-    expect(paths(between, rita), changes, "nothing changed for a reviewer")
-    yes = "your request 1 is approved (raul yes, rita yes): seen"
-    expect(paths(between, ann, yes), [*small, "/requests/from/3", *bars], "a request that changed")
-    expect(paths(between, ann), [*small, "/requests/from/3", *bars], "nothing of hers changed")
-    ann.does("withdraw 1 --yes")
-    ann.does("withdraw 2 --yes")
-    lines = ("your request 1 is withdrawn (raul yes, rita yes): seen",
-             "your request 2 is withdrawn: seen")
-    ended = ["/requests/from/3", "/requests/1", "/requests/2"]
-    expect(paths(between, ann, *lines), [*small, *ended], "requests that ended")
-    expect(paths(between, ann), changes, "nothing is under way")
-
-
 def test_what_ended_between_two_looks_is_told(office: Office) -> None:
     """Once, also where a command fails at another event of the look."""
     ann, room = office["ann"], office.desk.room

@@ -11,9 +11,7 @@ from typing import Iterator
 import pytest
 
 from checks.conftest import NewDesk
-from checks.support.images import (
-    OWNER, PLAIN, TABLE, TBS, THREE_LISTS, digest, digest_list, with_table,
-)
+from checks.support.images import OWNER, PLAIN, THREE_LISTS, digest, digest_list
 from checks.support.messages import Field, got, line, refused, request, text, token
 from checks.support.program import Program
 from checks.support.says import expect, fail
@@ -44,19 +42,6 @@ def test_an_image_that_is_cut_is_refused_for_its_first_fault(desk: Program) -> N
         wanted = (0, LAYOUT, b"") if fault is None else (1, b"", line(fault))
         image = desk.file("image", PLAIN[:size])
         desk.ends(*wanted, "ranges", image, what=f"{size} bytes: ")
-
-
-def test_a_certificate_table_that_is_cut_is_refused(desk: Program) -> None:
-    """Its entry says so; up to seven bytes of padding aren't missed."""
-    for size in range(len(TABLE) + 1):
-        image = desk.file("image", with_table(PLAIN, TABLE[:size]))
-        if 1 <= size <= 42:
-            desk.ends(1, b"", line(9), "facts", image, what=f"{size} bytes of the table: ")
-        else:
-            out = desk.gives("facts", image)
-            carried = [one for one in out.splitlines() if one.startswith(b"certificate ")]
-            wanted = [f"certificate {TBS}".encode()] if size else []
-            expect(carried, wanted, f"facts with {size} bytes of the table")
 
 
 @pytest.mark.parametrize(

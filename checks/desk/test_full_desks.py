@@ -8,14 +8,13 @@ from typing import Protocol
 import pytest
 
 from checks.conftest import NewDesk
-from checks.support.images import CERTIFICATE, PLAIN, TBS, authenticode, digest, digest_list, sha256
+from checks.support.images import CERTIFICATE, PLAIN, authenticode, digest, digest_list, sha256
 from checks.support.messages import PEOPLE, line, octets, ok, refused, text
 from checks.support.program import Program
 from checks.support.says import expect
 from checks.support.server import serves
 from checks.support.steps import (
-    Step, again, closes, confirms, lists, minutes, named, proposes, raising, reads, refuses,
-    submits, takes,
+    Step, again, closes, confirms, lists, minutes, named, proposes, reads, refuses, submits, takes,
 )
 from checks.support.tools import ran
 
@@ -132,21 +131,6 @@ LAST: dict[str, tuple[tuple[str, ...], list[Step]]] = {
          takes("olga", "k2", "/db/unlist", named(digest("aa"), kind="digest"),
                {"reply": "unlisted"}),
          takes("olga", "k3", "/db/certificates", CERTIFICATE, {"reply": "listed"})],
-    ),
-    "10,000 revoked certificates": (
-        (f"9999 revoked_certificates SELECT {BLOB}",),
-        [proposes("olga", "k1", "/dbx/certificates", AA, 1),
-         proposes("olga", "k2", "/dbx/certificates", named(TBS), 2),
-         confirms("otto", "k1", 1, 0, 1, 0, 0), reads("otto", "/proposals/2/impact", refused(36)),
-         closes(36, "confirm", "otto", "k2", 2)],
-    ),
-    "10,000 names of the level": (
-        ("9999 components SELECT printf('n%05d', i), 1",),
-        [proposes("olga", "k1", "/level", raising("x", 1, 2024010100), 1),
-         proposes("olga", "k2", "/level", raising("y", 1, 2024010101), 2),
-         proposes("olga", "k3", "/level", raising("x", 2, 2024010101), 3),
-         confirms("otto", "k1", 1, 0, 0, 1, 0), closes(36, "confirm", "otto", "k2", 2),
-         confirms("otto", "k2", 3, 0, 0, 1, 0)],
     ),
 }
 

@@ -8,9 +8,8 @@ import subprocess
 
 import pytest
 
-from checks.http.conftest import CALLS, FILES, Day, Found, passes
-from checks.support.images import OWNER, TBS, digest
-from checks.support.mirrored import dbx_of
+from checks.support.afternoon import afternoon
+from checks.support.images import OWNER, digest, digest_list
 from checks.support.program import Program
 from checks.support.says import fail
 from checks.support.tools import EXAMPLES, ROOT
@@ -20,6 +19,8 @@ pytestmark = pytest.mark.needs("openssl", "xxd")
 PAGE = ROOT / "docs" / "AUDIT.md"
 # The minutes of a desk of version 1.
 OLD = EXAMPLES / "version-1"
+# What a desk writes, and what it is called where it is published.
+FILES = {"dbx": "dbx.esl", "db": "db.esl", "level": "level.csv"}
 
 
 def typed(title: str) -> str:
@@ -32,8 +33,9 @@ def typed(title: str) -> str:
 class Published:
     """A folder of published files, in which lines are typed."""
 
-    def __init__(self, desk: Program, found: Found) -> None:
-        self.desk, self.found, self.folder = desk, found, desk.room / "published"
+    def __init__(self, desk: Program) -> None:
+        self.desk, self.folder = desk, desk.room / "published"
+        self.found = desk.exports(afternoon(desk, "afternoon.db"))
         for path in (self.folder, desk.room / "bin"):
             path.mkdir()
         (desk.room / "bin" / "desk").symlink_to(desk.path)
@@ -41,7 +43,7 @@ class Published:
     def gives(self, script: str, status: int, wanted: str, **others: bytes) -> None:
         """The status and what is printed, of both streams, with these files in place of the right
         ones."""
-        for name, data in {**self.found._asdict(), **others}.items():
+        for name, data in {**self.found, **others}.items():
             (self.folder / FILES.get(name, "minutes.txt")).write_bytes(data)
         env = {**self.desk.env, "PATH": f"{self.desk.room / 'bin'}:{os.environ['PATH']}"}
         done = subprocess.run(
@@ -58,29 +60,31 @@ MIRROR, CERTIFICATES, MIGRATION = map(
 
 
 @pytest.fixture
-def published(desk: Program, day: Day) -> Published:
-    return Published(desk, day.found)
+def published(desk: Program) -> Published:
+    return Published(desk)
 
 
-def test_a_mirrors_check_finds_the_file_that_is_wrong(published: Published, day: Day) -> None:
+def test_a_mirrors_check_finds_the_file_that_is_wrong(published: Published) -> None:
     ok = {"dbx.esl": "OK", "db.esl": "OK", "level.csv": "OK"}
     told = "".join(f"{name}: {said}\n" for name, said in ok.items())
     published.gives(MIRROR, 0, told)
     for name, data in (
-        ("dbx", dbx_of(day.work, digest("ee"))), ("db", b""),
-        ("level", day.found.level + b"zlib,2\n")
+        ("dbx", digest_list([digest("ee")])), ("db", b""),
+        ("level", published.found["level"] + b"zlib,2\n")
     ):
         failed = told.replace(f"{FILES[name]}: OK", f"{FILES[name]}: FAILED")
         published.gives(MIRROR, 1, failed + ".*\n", **{name: data})
-    cut = day.found.minutes[:-1]
-    published.gives(MIRROR, 1, f"refused 47 Minute at {CALLS}\n.*\n", minutes=cut)
+    cut = published.found["minutes"][:-1]
+    last = published.found["minutes"].count(10)
+    published.gives(MIRROR, 1, f"refused 47 Minute at {last}\n.*\n", minutes=cut)
     published.gives(MIRROR.replace("desk ", "no-desk "), 1, ".*not found\n.*\n")
 
 
-def test_a_listed_certificate_with_another_digest_is_named(published: Published, day: Day) -> None:
+def test_a_listed_certificate_with_another_digest_is_named(published: Published) -> None:
     published.gives(CERTIFICATES, 0, "")
-    other = day.found.minutes.replace(TBS.encode(), digest("ee").encode())
-    passes(published.desk, other, "minutes with another digest of a certificate")
+    minutes = published.found["minutes"]
+    (listed,) = re.findall(rb"list-certificate ([0-9a-f]{64}) ", minutes)
+    other = minutes.replace(listed, digest("ee").encode())
     published.gives(CERTIFICATES, 0, f"{digest('ee')} isn't .*\n", minutes=other)
 
 

@@ -194,15 +194,6 @@ def test_a_standby_goes_on_after_an_upgrade_and_where_there_is_none(machine: Mac
     machine.forgets()
 
 
-def test_it_goes_on_where_the_old_postinst_knows_of_none(machine: Machine) -> None:
-    """dpkg runs the new `postrm` before the old `postinst`."""
-    machine.unit(STANDBY)
-    machine.ends(UPGRADE, f"stop {FOLLOWS}")
-    machine.ends(("postrm", "abort-upgrade", "0.0.9", "0.1.0"), f"start {STANDBY}")
-    machine.forgets()
-    machine.ends(("postinst", "abort-upgrade", "0.1.0"))
-
-
 # ---- nginx
 
 
@@ -235,11 +226,6 @@ def test_a_removal_stops_all_and_names_the_sites_of_nginx(machine: Machine) -> N
     units = f"{publishes} {FOLLOWS} {mirrors} {DESK}"
     named = f"so take them out: {sites}/desk \n"
     machine.ends(("prerm", "remove"), f"stop {units}", says=named)
-
-
-def test_the_desk_is_copied_where_the_package_comes_back(machine: Machine) -> None:
-    machine.ends(("preinst", "install", "0.0.9"))
-    expect(files(machine.copy()), files(machine.state), "the copy")
 
 
 def test_a_purge_takes_the_token_and_the_links_of_units_and_no_desk(machine: Machine) -> None:

@@ -94,21 +94,6 @@ def test_each_role_sees_what_waits(
     looked(browser, f"the first view of {name}")
 
 
-def test_a_barred_image_is_marked_where_it_waits_and_in_the_list(
-    browser: Browser, site: Site
-) -> None:
-    for number in (1, 2):
-        site.submits(unsigned(number), f"to be read, {number}")
-    proposal = site.proposes(site.shows("rita", "/requests/2")["digest"])
-    site.does("olga", f"/proposals/{proposal}/confirm", b"")
-    browser.sign_in(token("rita"))
-    for view in ("inbox", "requests"):
-        browser.go(view)
-        browser.sees("to be read, 2 Barred today")
-        expect(browser.text().count("Barred today"), 1, f"marks in the view {view}")
-    looked(browser, "a list with a mark")
-
-
 def test_what_waits_is_in_the_list_while_that_is_read(browser: Browser, site: Site) -> None:
     """A large desk's list, of which the second part is late. What has the focus keeps it as that
     comes."""

@@ -1,8 +1,9 @@
-"""Slips of tired people. What would revoke nothing, or too much, is asked back about, with what was
-probably meant; so is a yes that nobody means. Nothing is sent."""
+"""Slips of tired people at the page: what was proposed by one is told before a Confirm, what was
+submitted before where it is chosen, and a yes that nobody means is asked back about; and who is
+signed in. What is asked about each slip is in page/wire/cases."""
 from __future__ import annotations
 
-from typing import Iterable, Iterator
+from typing import Iterable
 
 import pytest
 from selenium.webdriver.common.keys import Keys
@@ -10,7 +11,7 @@ from selenium.webdriver.common.keys import Keys
 from checks.page.conftest import shots
 from checks.page.looked import looked
 from checks.page.plain_day import TINY
-from checks.page.site import CERTIFICATE, Site, signed, unsigned
+from checks.page.site import Site, signed, unsigned
 from checks.support.browser import Browser
 from checks.support.cases import SIGNER
 from checks.support.images import sha256
@@ -18,10 +19,7 @@ from checks.support.messages import token
 from checks.support.says import expect
 from checks.support.waits import until
 
-# As openssl prints a fingerprint.
-COLONS = ":".join(["AB"] * 32)
 IN_ANOTHER = "image was submitted before in another file"
-DIGESTS = "Digests, one a line"
 # What is proposed by a slip: where, by which fact of a request, what is said of it, and as what it
 # is known.
 PROPOSED = (
@@ -33,47 +31,9 @@ PROPOSED = (
 )
 
 
-@pytest.fixture
-def facts(browser: Browser, site: Site) -> Iterator[dict[str, str]]:
-    """Those of a request whose length is no multiple of 8. olga is signed in, and proposes
-    nothing."""
-    site.does("olga", "/db/certificates", CERTIFICATE)
-    number = site.submits(unsigned(105) + b"12345", "of an odd length")
-    before = site.shows("olga", "/proposals")
-    browser.sign_in(token("olga"))
-    yield site.shows("olga", f"/requests/{number}")
-    expect(site.shows("olga", "/proposals"), before, "the proposals behind slips")
-
-
 def with_each(digests: Iterable[str]) -> set[str]:
     """The paths by which the requests are read that have one of these."""
     return {f"/requests/with/{one}" for one in digests}
-
-
-def slips(browser: Browser, told: str, meant: str) -> None:
-    browser.press("Propose")
-    browser.asks("Is that what you mean?", told, meant)
-    browser.press("Change it")
-    browser.asks_no_more()
-
-
-def test_a_digest_that_is_of_something_else_is_asked_about(
-    browser: Browser, site: Site, facts: dict[str, str]
-) -> None:
-    """By what the requests are that have it, without the list of them."""
-    browser.go("propose")
-    with site.reading() as paths:
-        for given, told, meant in (
-            (facts["file"], "the SHA-256 of the whole file", facts["digest"]),
-            (COLONS, "AB:AB:AB… has colons", ""),
-        ):
-            browser.fill(DIGESTS, given)
-            slips(browser, told, meant)
-    given = (facts["file"], "ab" * 32)
-    expect(set(paths), with_each(given), "what is read of requests")
-    browser.fill(DIGESTS, f"{'a' * 64}\n\n{'a' * 63}")
-    browser.press("Propose")
-    browser.sees("Line 3 isn’t 64 hexadecimal digits.")
 
 
 @pytest.mark.long(20)
