@@ -4,10 +4,9 @@ from __future__ import annotations
 
 import pytest
 
-from checks.support.between import Between, shown
 from checks.support.client_day import BOTH, ODD
 from checks.support.deskctl import Office
-from checks.support.images import PLAIN, authenticode, digest
+from checks.support.images import PLAIN, authenticode
 from checks.support.messages import posted
 from checks.support.says import expect
 from checks.support.steps import named, vote
@@ -77,23 +76,3 @@ def test_a_terminal_of_80_columns_has_it(filled: Office) -> None:
         "Nothing waits for you.", "Yours under way: 1",
         "PROPOSAL  NAMES                     BY    AGE",
         "2         2 digests, 1 certificate  olga  -"]), "an officer whose proposal is open")
-
-
-def test_a_terminal_says_what_one_entry_is(filled: Office, between: Between) -> None:
-    filled["olga"].does(f"revoke --digest {digest('77')}", "proposal 3")
-    line = "3         digest 77777777.., which newly bars no known image  olga  0 minutes"
-    for name in ("olga", "otto"):
-        filled[name].at(between.url)
-        assert line in filled[name].asked("inbox", size=(24, 120))[1].splitlines(), name
-    # (no certificate is named)
-    expect([head for head in between.seen if b" /db" in head], [], "the lists that were read")
-    expect(seen(filled, "otto")[1], "waits proposal 3 1 digest|olga|0 minutes", "without one")
-
-
-def test_an_officer_sees_how_old_a_proposal_is(filled: Office, between: Between) -> None:
-    """Where its call is among the last ones."""
-    between.shows["/changes"] = shown({"changes": 2000})
-    between.history = [f"{at}\tx\tx\tx\tx\n".encode() for at in range(1, 2001)]
-    between.history[1499] = b"1500\tolga\t20990101T000000Z-aa\timport\tproposed 2\n"
-    filled["otto"].at(between.url)
-    expect(seen(filled, "otto"), [DUE["otto"][0][:-1] + "0 minutes"], "the age")

@@ -2,7 +2,6 @@
 from __future__ import annotations
 
 import io
-from types import SimpleNamespace
 from typing import Any, Optional, Sequence
 
 import pytest
@@ -12,9 +11,7 @@ from checks.support.says import expect
 from kovelamiru import doubts
 from kovelamiru.answers import MOST
 from kovelamiru.desk import PART, Desk
-from kovelamiru.deskctl import returns
-from kovelamiru.facts import Facts
-from kovelamiru.faults import Lost, Refused, Stop
+from kovelamiru.faults import Lost, Stop
 from kovelamiru.http import BYTES, JSON, TEXT, Answer, Call, address
 from kovelamiru.terminal import Terminal
 
@@ -85,10 +82,6 @@ class Held(Desk):
         return [path.removeprefix("/requests/") for path in self.asked if "/requests" in path]
 
 
-def run_at(desk: Desk) -> Any:
-    return SimpleNamespace(desk=desk)
-
-
 def told(desk: Desk, digests: Sequence[str], certificates: Sequence[str],
          raised: Sequence[tuple[str, int]] = ()) -> tuple[object, ...]:
     found = doubts.known(desk, digests, certificates, raised)
@@ -143,29 +136,6 @@ def test_a_token_that_was_typed_as_a_digest_goes_into_no_address(token: str) -> 
     desk = Held(HELD)
     told(desk, [DIGEST, token], [])
     expect([path for path in desk.asked if TOKEN in path.lower()], [], "the addresses with it")
-
-
-@pytest.mark.parametrize("digests, numbers, asked", [
-    ([SIGNING], [12], []), ([SIGNING, DIGEST], [1, 12], [f"with/{DIGEST}"]),
-    ([DIGEST, LONE, NOBODYS], [1, 2, 3, 12], [f"with/{one}" for one in (DIGEST, LONE, NOBODYS)]),
-])
-def test_what_waits_for_a_signature_is_no_more_searched_for(
-    digests: list[str], numbers: list[int], asked: list[str]
-) -> None:
-    images = [returns.Image(one, b"", Facts(512, 0, of(90), one, one, [], [])) for one in digests]
-    desk = Held(HELD)
-    found = returns.candidates(run_at(desk), images)
-    expect(([one.number for one in found], desk.requests()), (numbers, asked), "the requests")
-
-
-@pytest.mark.parametrize("stop", [
-    Lost("no answer", True), Refused(20, "UnknownCaller"), Stop(1, "refused by the proxy: 403"),
-])
-def test_what_else_ends_a_search_ends_the_run(stop: Stop) -> None:
-    desk = Held(HELD, stop)
-    with pytest.raises(type(stop)):
-        doubts.known(desk, [FILE], [])
-    expect(len(desk.asked), 1, "how often it was asked")
 
 
 def test_an_answer_out_of_order_is_no_desks() -> None:

@@ -8,7 +8,7 @@ import pytest
 
 from checks.support.between import NO_ANSWER, Between
 from checks.support.deskctl import Office
-from checks.support.images import PLAIN, authenticode, changed, sha256, signing, with_text
+from checks.support.images import PLAIN, changed, sha256, with_text
 from checks.support.says import expect
 from checks.support.wire import wire
 from kovelamiru.titles import apart_in, group_of, machine_names, name_of, titles_of
@@ -109,23 +109,6 @@ def test_a_file_that_was_submitted_before_is_asked_about(built: Office) -> None:
     for number in "124":
         ann.does(f"withdraw {number}")
     assert "submitted before" not in ann.asked(line)[1]
-
-
-def test_only_requests_of_the_files_and_their_images_are_asked_for(
-    built: Office, between: Between
-) -> None:
-    for title in ("shim", "grub"):
-        built["ann"].does(f"submit vmlinuz-arm64 --title {title}")
-    built["rita"].does("submit vmlinuz-amd64 --title other")
-    odd = image("amd64", b"1")
-    built.file("odd", odd)
-    ended, told = built["ann"].at(between.url).asked("submit odd vmlinuz-arm64 --title again", "no")
-    assert ended == 2 and "vmlinuz-arm64: The same file was submitted before, as request 2" in told
-    assert "odd:" not in told and "vmlinuz-amd64" not in told, told
-    arm = image("arm64")
-    names = {sha256(odd), authenticode(odd), signing(odd), sha256(arm), authenticode(arm)}
-    due = [f"/requests/with/{name}" for name in sorted(names)]
-    expect(between.asked("/requests"), due, "what was asked for")
 
 
 def test_an_uploads_rows_stand_below_one_row(built: Office) -> None:

@@ -85,6 +85,12 @@ class Faulty:
             fail(f"{what}: the minutes are {found!r}")
         return found
 
+    def tried(self, kind: str, last: int) -> None:
+        """Each read or write was made to fail, up to the first that isn't made."""
+        if kind == "WRITE":
+            expect(last - 1, -(-len(self.due) // self.piece), f"{self.name}: the writes")
+        assert last > len(self.given) // self.piece or kind == "WRITE", f"{last - 1} reads failed"
+
     def answer(self, path: str, kind: str, number: int) -> Ran:
         env = self.env(**{kind: str(number)})
         return self.desk.run("answer", path, given=self.given, env=env)
@@ -119,74 +125,49 @@ WHOLE = 10_000
 
 @pytest.mark.long(60)
 @pytest.mark.parametrize("name", CASES)
-def test_a_read_that_fails_in_answer_gives_no_response_and_leaves_the_calls(
-    desk: Program, new_desk: NewDesk, loaded: Path, name: str
+@pytest.mark.parametrize("kind", ("READ", "WRITE"))
+def test_what_fails_in_answer_gives_no_whole_response_and_the_command_is_there_once(
+    desk: Program, new_desk: NewDesk, loaded: Path, kind: str, name: str
 ) -> None:
+    """Behind a failed read the desk has the calls of before."""
     way = Faulty(desk, new_desk(), loaded, name)
     for number in range(1, WHOLE):
-        what = f"{name} by answer, read {number} fails"
+        what = f"{name} by answer, {kind} {number} fails"
         path = desk.copied(way.base, "tried.db")
         found = contents(path)
-        ran = way.answer(path, "READ", number)
+        ran = way.answer(path, kind, number)
         if ran == (0, way.due, b""):
             break
-        expect(ran, Ran(3, b"", READ), what)
-        expect(contents(path), found, f"{what}: the desk's file")
+        written = way.due[: (number - 1) * way.piece] if kind == "WRITE" else b""
+        expect(ran, Ran(3, written, WRITE if kind == "WRITE" else READ), what)
+        if kind == "READ":
+            expect(contents(path), found, f"{what}: the desk's file")
         # (a call may also stand in the log alone)
-        way.minutes_more(path, 0, what)
+        after = way.minutes_more(path, int(way.is_command and kind == "WRITE"), what)
         desk.answers(path, way.given, way.due, f"{what}: the request again")
-    assert number > len(way.given) // way.piece, f"{number - 1} reads failed"
+        if kind == "WRITE":
+            expect(desk.minutes(path), after, f"{what}: the minutes after the request again")
+    way.tried(kind, number)
 
 
 @pytest.mark.long(60)
 @pytest.mark.parametrize("name", CASES)
-def test_a_write_that_fails_in_answer_leaves_a_prefix_and_the_command_once(
-    desk: Program, new_desk: NewDesk, loaded: Path, name: str
+@pytest.mark.parametrize("kind", ("READ", "WRITE"))
+def test_what_fails_in_serve_ends_that_connection_alone(
+    desk: Program, new_desk: NewDesk, loaded: Path, kind: str, name: str
 ) -> None:
+    """Behind a failed write a prefix of the response was sent."""
     way = Faulty(desk, new_desk(), loaded, name)
     for number in range(1, WHOLE):
-        what = f"{name} by answer, write {number} fails"
-        path = desk.copied(way.base, "tried.db")
-        ran = way.answer(path, "WRITE", number)
-        if ran == (0, way.due, b""):
-            break
-        expect(ran, Ran(3, way.due[: (number - 1) * way.piece], WRITE), what)
-        after = way.minutes_more(path, int(way.is_command), what)
-        desk.answers(path, way.given, way.due, f"{what}: the request again")
-        expect(desk.minutes(path), after, f"{what}: the minutes after the request again")
-    expect(number - 1, -(-len(way.due) // way.piece), f"{name} by answer: the writes")
-
-
-@pytest.mark.long(60)
-@pytest.mark.parametrize("name", CASES)
-def test_a_read_that_fails_in_serve_ends_that_connection_alone(
-    desk: Program, new_desk: NewDesk, loaded: Path, name: str
-) -> None:
-    way = Faulty(desk, new_desk(), loaded, name)
-    for number in range(1, WHOLE):
-        what = f"{name} over serve, read {number} fails"
-        found = way.serve("READ", number, what)
-        if found == way.due:
-            break
-        expect(found, b"", what)
-    assert number > len(way.given) // way.piece, f"{number - 1} reads failed"
-
-
-@pytest.mark.long(60)
-@pytest.mark.parametrize("name", CASES)
-def test_a_write_that_fails_in_serve_sends_a_prefix_and_ends_that_connection_alone(
-    desk: Program, new_desk: NewDesk, loaded: Path, name: str
-) -> None:
-    way = Faulty(desk, new_desk(), loaded, name)
-    for number in range(1, WHOLE):
-        what = f"{name} over serve, write {number} fails"
-        found = way.serve("WRITE", number, what)
+        what = f"{name} over serve, {kind} {number} fails"
+        found = way.serve(kind, number, what)
         if found == way.due:
             break
         # (what was written goes out before the connection ends, unless it is cut by a reset)
-        if not way.due.startswith(found) or len(found) > (number - 1) * way.piece:
+        most = (number - 1) * way.piece if kind == "WRITE" else 0
+        if not way.due.startswith(found) or len(found) > most:
             fail(f"{what}: {found!r}")
-    expect(number - 1, -(-len(way.due) // way.piece), f"{name} over serve: the writes")
+    way.tried(kind, number)
 
 
 @pytest.mark.long(40)

@@ -56,20 +56,6 @@ def test_mandoc_has_no_warning_of_a_page(page: Path) -> None:
 
 
 @pytest.mark.needs("man")
-@pytest.mark.parametrize("name", TOOLS)
-def test_the_page_of_a_tool_has_each_option_and_all_that_its_help_says(
-    package: Package, name: str, room: Path
-) -> None:
-    said = shown(source(package, f"man1/{name}.1", room))
-    helped = ran(package.root / "usr/bin" / name, "--help").decode()
-    options = re.findall("(?m)^  (--[a-z-]+)", helped)
-    assert len(options) > 5 and [one for one in options if not tells(said, one)] == []
-    about = re.split("(?m)^(?:positional arguments|options|optional arguments):\n", helped)
-    words = re.findall("[A-Za-z]{4,}", " ".join([about[0].split("\n\n", 1)[1], about[-1]]))
-    assert [one for one in words if one not in said] == []
-
-
-@pytest.mark.needs("man")
 def test_desk_http_7_has_each_route_and_each_refusal(package: Package, room: Path) -> None:
     said = shown(source(package, PAGES[1], room))
     table = (ROOT / "docs/FORMATS.md").read_text().split("\n| Path", 1)[1].split("\n\n", 1)[0]

@@ -1,8 +1,6 @@
-"""The first view: what waits for each role, what changed of one's own, and the count of both in the
-window's title and at the view's link."""
+"""The first view: what waits for each role, and its count in the window's title and at the view's
+link; and what the list of proposals says of each."""
 from __future__ import annotations
-
-import threading
 
 import pytest
 
@@ -10,17 +8,12 @@ from checks.page.conftest import shots
 from checks.page.looked import looked
 from checks.page.site import Site, unsigned
 from checks.support.browser import Browser
-from checks.support.messages import said, token
+from checks.support.messages import token
 from checks.support.says import expect
-from checks.support.steps import shown
 from checks.support.waits import until
 
 NAMED = "digest 55555555.., which newly bars no known image"
-LOOK = "module.look(true).then(({ kind }) => kind)"
-
-
-def looks_again(browser: Browser) -> None:
-    expect(browser.module("desk/waiting.js", LOOK), "value", "what a look gives")
+PACKAGE = "shim 16.1-1 amd64"
 
 
 def is_counted(browser: Browser, title: str, count: str) -> None:
@@ -53,26 +46,6 @@ def test_a_reviewer_is_led_from_one_request_to_the_next(browser: Browser, site: 
     browser.sees("Nothing else waits for you.")
 
 
-def test_a_submitters_requests_that_changed_count_until_she_looks_at_them(
-    browser: Browser, site: Site
-) -> None:
-    number = site.submits(unsigned(1), "to be counted")
-    browser.sign_in(token("ann"))
-    browser.sees("Yours under way 1")
-    is_counted(browser, "For you", "")
-    browser.go("check")
-    site.reviews("rita", number, "no")
-    looks_again(browser)
-    is_counted(browser, "(1) Check an image", "1")
-    browser.press("For you 1", tag="a")
-    browser.sees("Yours that changed 1", "Rejected", "You have no request under way.")
-    looked(browser, "what changed of a submitter's")
-    browser.go(f"requests/{number}")
-    is_counted(browser, f"Request {number}", "")
-    browser.press("Sign out")
-    expect(browser.driver.title, "Kovelamiru", "the title after the sign-out")
-
-
 @pytest.mark.parametrize("name, says", [
     ("olga", ["Waits for you 1", NAMED, "None of your proposals is open."]),
     ("otto", ["No proposal waits for you.", "Yours under way 1", NAMED, "otto (you)"]),
@@ -94,34 +67,22 @@ def test_each_role_sees_what_waits(
     looked(browser, f"the first view of {name}")
 
 
-def test_what_waits_is_in_the_list_while_that_is_read(browser: Browser, site: Site) -> None:
-    """A large desk's list, of which the second part is late. What has the focus keeps it as that
-    comes."""
-    goes_on = threading.Event()
-    old = [shown(number, "ann", f"old {number}", "signed", []) for number in range(1, 1001)]
-    new = shown(1001, "ann", "the newest", "open", [])
+def rows(browser: Browser) -> list[str]:
+    return [one.text for one in browser.all("tbody tr")]
 
-    def shows(path: str) -> bytes | None:
-        if path == "/requests/from/1001":
-            goes_on.wait(60)
-        given = {"/requests/from/1": old, "/requests/from/1001": [new],
-                 "/waiting": {"requests": [new], "proposals": []}}
-        return said(given[path]) if path in given else None
 
-    def comes(focus: str) -> None:
-        """The second part, while this has the focus."""
-        goes_on.set()
-        browser.sees("All 1,001")
-        until(20, "the list is whole", lambda: "Reading" not in browser.text(), browser.text)
-        goes_on.clear()
-        expect(browser.script("return document.activeElement.textContent"), focus, "the focus")
-
-    site.relay.shows = shows
-    browser.sign_in(token("rita"))
-    browser.sees("the newest")
-    browser.script("location.hash = '#/requests'")
-    browser.sees("Reading from the desk", "Open 1", "Signed 1,000", "the newest")
-    browser.press("Rejected 0")
-    browser.sees("None so far: the list is still being read.")
-    comes("Rejected 0")
-    browser.sees("No request is like this.", "Open 1")
+def test_the_list_says_what_is_proposed_how_old_and_whose(browser: Browser, site: Site) -> None:
+    number = site.submits(unsigned(105), PACKAGE)
+    image = site.shows("olga", f"/requests/{number}")["digest"]
+    site.proposes(image, "otto")
+    level = {"component": "grub", "generation": 4, "stamp": 2026112701}
+    site.does("olga", "/level", level)
+    browser.sign_in(token("olga"))
+    words = f"digest {image[:8]}.. of {PACKAGE}, request 1, not allowed today"
+    # (the first view has them, too)
+    browser.sees("Waits for you", words, "grub to 4")
+    browser.go("proposals")
+    browser.sees(words, "grub to 4")
+    expect(len(rows(browser)), 2, "the rows")
+    browser.press("Not mine")
+    until(10, "otto's alone", lambda: [words in row for row in rows(browser)] == [True])
