@@ -8,7 +8,6 @@ import pytest
 
 from checks.support.deskctl import Office
 from checks.support.images import certificate_list, digest, digest_list, parted
-from checks.support.messages import posted
 from checks.support.says import expect
 from kovelamiru.deskctl.arches import check, of_arches, parts_of
 from kovelamiru.faults import Unreadable
@@ -29,9 +28,8 @@ def due(digests: list[str]) -> bytes:
 
 def published(office: Office) -> None:
     """The desk's dbx is DBX."""
-    for who, path, body in (("olga", "/imports/dbx", DBX), ("otto", "/proposals/1/confirm", b"")):
-        found = office.server.ask(posted(who, "k1", path, body))
-        expect(found[:12], b"HTTP/1.1 200", f"{who} posts to {path}")
+    office.server.does("olga", "/imports/dbx", DBX)
+    office.server.does("otto", "/proposals/1/confirm", b"")
 
 
 @pytest.mark.parametrize("source", ["", " --from dbx.esl"])

@@ -7,7 +7,6 @@ import pytest
 from checks.support.client_day import BOTH, ODD
 from checks.support.deskctl import Office
 from checks.support.images import PLAIN, authenticode
-from checks.support.messages import posted
 from checks.support.says import expect
 from checks.support.steps import named, vote
 
@@ -42,10 +41,8 @@ POSTS: list[tuple[str, str, bytes, str]] = [
 
 @pytest.fixture
 def filled(office: Office) -> Office:
-    for number, (name, path, body, title) in enumerate(POSTS):
-        fields = [("Desk-Title", title)] if title else []
-        found = office.server.ask(posted(name, f"k{number}", path, body, *fields))
-        expect(found[:12], b"HTTP/1.1 200", f"{name} posts to {path}")
+    for name, path, body, title in POSTS:
+        office.server.does(name, path, body, *[("Desk-Title", one) for one in [title] if one])
     return office
 
 

@@ -12,7 +12,6 @@ from checks.support.between import NO_ANSWER, Between, instead
 from checks.support.client_day import ODD, SIGNED
 from checks.support.deskctl import NO_TERMINAL, Office
 from checks.support.images import PLAIN, TABLE, authenticode, changed, with_table
-from checks.support.messages import posted
 from checks.support.says import expect
 from checks.support.steps import named, vote
 
@@ -28,11 +27,8 @@ AGAIN = "Run the same command again"
 
 
 def posts(office: Office, rows: list[tuple[str, str, bytes, str]]) -> None:
-    for number, (name, path, body, title) in enumerate(rows):
-        fields = [("Desk-Title", title)] if title else []
-        key = f"k{len(office.calls())}-{number}"
-        found = office.server.ask(posted(name, key, path, body, *fields))
-        expect(found[:12], b"HTTP/1.1 200", f"{name} posts to {path}")
+    for name, path, body, title in rows:
+        office.server.does(name, path, body, *[("Desk-Title", one) for one in [title] if one])
 
 
 @pytest.fixture

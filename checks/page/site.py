@@ -7,16 +7,15 @@ import http.client
 import http.server
 import json
 import re
-import secrets
-import struct
 import threading
 from pathlib import Path
 from typing import Any, Iterator, NamedTuple
 
 from checks.page.relay import HOLD, Relay
 from checks.support.cases import SIGNER
+from checks.support.client_day import table_of
 from checks.support.images import changed, with_table
-from checks.support.messages import Field, posted, request, token
+from checks.support.messages import Field, request, token
 from checks.support.nginx import Nginx
 from checks.support.program import Program, copy_of
 from checks.support.says import fail, short
@@ -32,23 +31,9 @@ def unsigned(number: int, generation: int = 3) -> bytes:
     return changed(grub(generation), (1016, number.to_bytes(8, "big").hex()))
 
 
-def der(tag: int, *parts: bytes) -> bytes:
-    """An element of these parts."""
-    content = b"".join(parts)
-    size = len(content)
-    if size < 128:
-        return bytes([tag, size]) + content
-    length = size.to_bytes(-(-size.bit_length() // 8), "big")
-    return bytes([tag, 128 + len(length)]) + length + content
-
-
 def signed(image: bytes, certificate: bytes = CERTIFICATE) -> bytes:
-    """The image with a certificate table of one entry: SignedData (RFC 5652) that carries the
-    certificate and signs nothing."""
-    data = der(0x30, bytes.fromhex("020101 3100 3000"), der(0xA0, certificate), b"\x31\0")
-    body = der(0x30, bytes.fromhex("06092a864886f70d010702"), der(0xA0, data))
-    head = struct.pack("<IHH", 8 + len(body), 0x0200, 2)
-    return with_table(image, head + body + bytes(-len(body) % 8))
+    """The image with a table that carries the certificate and signs nothing."""
+    return with_table(image, table_of(certificate))
 
 
 class Answer(NamedTuple):
@@ -74,10 +59,7 @@ def does(
     """The reply to this person's command, which the desk accepts. A body that isn't bytes goes as
     JSON."""
     sent = body if isinstance(body, bytes) else json.dumps(body).encode()
-    answer = answer_of(server.ask(posted(name, secrets.token_hex(8), path, sent, *fields), False))
-    if answer.status != 200:
-        fail(f"{name} at {path}: {answer}")
-    found: dict[str, Any] = answer.json()
+    found: dict[str, Any] = answer_of(server.does(name, path, sent, *fields)).json()
     return found
 
 

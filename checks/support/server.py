@@ -2,15 +2,17 @@
 from __future__ import annotations
 
 import contextlib
+import secrets
 import socket
 import subprocess
 import time
 from types import TracebackType
 from typing import Callable, Mapping, Sequence
 
+from checks.support.messages import Field, posted
 from checks.support.ports import Held, listens
 from checks.support.program import Program
-from checks.support.says import expect, fail, note
+from checks.support.says import expect, fail, note, short
 from checks.support.steps import Step
 from checks.support.tools import end_with_parent
 
@@ -85,6 +87,12 @@ class Server:
     def answers(self, given: bytes, due: bytes, what: str, ends: bool = True) -> None:
         """The server gives this response."""
         expect(self.ask(given, ends), due, what)
+
+    def does(self, name: str, path: str, body: bytes, *fields: Field) -> bytes:
+        """The response to this person's command, which the desk accepts, under a key of its own."""
+        came = self.ask(posted(name, secrets.token_hex(8), path, body, *fields), ends=False)
+        expect(came[:12], b"HTTP/1.1 200", f"{name} posts to {path}: {short(came)}")
+        return came
 
     def memory(self) -> int:
         """The most memory that the server had, in bytes."""
