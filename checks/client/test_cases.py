@@ -13,15 +13,18 @@ import pytest
 from checks.support.cases import files, row_bytes
 from checks.support.client_day import TODAY
 from checks.support.deskctl import Office
+from checks.support.images import digest as of_byte
 from checks.support.says import expect
 from checks.support.tools import ROOT
 from checks.support.wire import REFUSALS, wire
 from kovelamiru import compare, doubts, pe, pem, pkcs7, refusals, revocations, signer, standing
+from kovelamiru.allowing import allow_doubts
 from kovelamiru.answers import Request, shaped
 from kovelamiru.beside import level_lines
 from kovelamiru.certificates import Certificate, certificate_in
 from kovelamiru.facts import Facts
 from kovelamiru.faults import Stop
+from kovelamiru.questions import QUESTIONS
 
 Case = dict[str, Any]
 IMPORTS, CERTIFICATES = files("imports"), files("certificates")
@@ -133,6 +136,23 @@ def test_a_level_is_told_beside_the_desks(case: Case) -> None:
     expect(told, case["says"], "what is said")
 
 
+@each(files("allows"))
+def test_what_looks_like_a_list_of_the_allowed_is_asked_about(case: Case, tmp_path: Path) -> None:
+    (tmp_path / "case").write_bytes(case["bytes"])
+    listed, parts = case.get("listed", {}), wire("cases/imports")["parts"]
+    ders = (row_bytes(parts, parts[name]) for name in listed.get("certificates", []))
+    now = standing.Standing(
+        digests=set(map(of_byte, listed.get("digests", []))),
+        certificates={one.tbs: one for one in map(certificate_in, ders) if one},
+        revoked_digests=set(map(of_byte, case.get("revoked", []))),
+        owners={wire("cases/imports")["owner"]},
+    )
+    found = revocations.revocations_of(str(tmp_path / "case"), None)
+    words = {"name": case["file"], "count": case.get("count"), "names": case.get("names")}
+    due = [QUESTIONS["import"][name].format(**words) for name in case["asks"]]
+    assert allow_doubts(case["file"], found, now) == due
+
+
 @each(CERTIFICATES)
 def test_a_certificate_is_read(case: Case, tmp_path: Path) -> None:
     (tmp_path / "case").write_bytes(case["bytes"])
@@ -206,7 +226,7 @@ def standing_of(case: Case) -> standing.Standing:
     """What a case lists and revokes; a name of a part is its certificate."""
     listed, revoked = (
         {"certificates": one, "digests": []} if isinstance(one, list) else one
-        for one in (case.get("listed", {}), case.get("revoked", {}))
+        for one in (case.get("listed", []), case.get("revoked", []))
     )
     return standing.Standing(
         set(listed["digests"]), {one.tbs: one for one in map(part, listed["certificates"])},

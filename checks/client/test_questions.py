@@ -9,10 +9,10 @@ from typing import Any
 
 import pytest
 
+from checks.client.test_cases import part, standing_of
 from checks.support.cases import row_bytes
 from checks.support.wire import wire
 from kovelamiru.answers import Request
-from kovelamiru.certificates import Certificate, certificate_in
 from kovelamiru.pkcs7 import signatures_of
 from kovelamiru.questions import (
     QUESTIONS, carried_question, issued_question, plain_question, several_question, twice_question,
@@ -61,20 +61,6 @@ def test_one_vote_on_several_requests_asks_about_each(case: dict[str, Any]) -> N
 
 
 LOOKS: dict[str, Any] = wire("cases/looks")
-
-
-def part(name: str) -> Certificate:
-    found = certificate_in(row_bytes(LOOKS["parts"], LOOKS["parts"][name]))
-    assert found
-    return found
-
-
-def standing_of(case: dict[str, Any]) -> Standing:
-    """What a case lists and revokes, by the names of parts."""
-    return Standing(
-        certificates={one.tbs: one for one in map(part, case["listed"])},
-        revoked_certificates={part(name).tbs for name in case.get("revoked", [])},
-    )
 
 
 SIGNED = {one["name"]: row_bytes(LOOKS["parts"], one["bytes"]) for one in LOOKS["signatures"]}

@@ -3,10 +3,7 @@
 Help has the subcommands of crates/cli_grammar/specs/Commands.antt in order, each with the line that
 begins its own help. That one shows an example and the exit statuses 0 to 3; a refusal in it is one
 that ends the program with the status next to it. Each example is run on a desk that is made on the
-spot, then on inputs that are refused, without arguments, and on files that can't be opened: the
-status is the one that help says, and a line on standard error names a refusal that help has for it.
-The version is the newest in CHANGELOG.md; README.md ends with the kits that the gate has passed
-with."""
+spot. The version is the newest in CHANGELOG.md."""
 from __future__ import annotations
 
 import os
@@ -14,7 +11,6 @@ import re
 import shutil
 import socket
 import subprocess
-from pathlib import Path
 
 import pytest
 
@@ -76,43 +72,27 @@ def asked(key: str, path: str, body: bytes) -> bytes:
 
 
 class Examples:
-    """Folders in which examples are run: `good` has what each needs, in `refused` each input is
-    refused, and in `broken` nothing can be opened or read."""
+    """A folder in which examples are run, with what each needs."""
 
     def __init__(self, desk: Program) -> None:
-        self.desk, self.bin = desk, desk.room / "bin"
-        self.good, self.refused, self.broken = (
-            desk.room / one for one in ("good", "refused", "broken")
-        )
-        for folder in (self.bin, self.good, self.refused, self.broken):
+        self.desk, self.bin, self.good = desk, desk.room / "bin", desk.room / "good"
+        for folder in (self.bin, self.good):
             folder.mkdir()
         (self.bin / "desk").symlink_to(desk.path)
-        for folder in (self.good, self.refused, self.broken):
-            (folder / "token.txt").write_text(f"{TOKEN}\n")
-            (folder / "olga.sha256").write_text(f"{sha256(TOKEN.encode())}  -\n")
-            body = bytes.fromhex("30053003020101")
-            (folder / "request.txt").write_bytes(asked("k2", "/db/certificates", body))
+        (self.good / "token.txt").write_text(f"{TOKEN}\n")
+        (self.good / "olga.sha256").write_text(f"{sha256(TOKEN.encode())}  -\n")
+        body = bytes.fromhex("30053003020101")
+        (self.good / "request.txt").write_bytes(asked("k2", "/db/certificates", body))
         shutil.copy(EXAMPLES / "signed.efi", self.good / "shimx64.efi")
         shutil.copy(EXAMPLES / "digests.txt", self.good)
-        (self.refused / "desk.db").touch()
-        for name in ("desk.db", "digests.txt"):
-            (self.broken / name).mkdir()
 
-    def runs(self, help: Help, status: int, folder: Path) -> None:
-        """The example ends so; with a line on standard error that names a refusal of that
-        status."""
+    def runs(self, help: Help) -> None:
         done = subprocess.run(
-            ["sh", "-c", help.example], cwd=folder, capture_output=True, timeout=120, check=False,
+            ["sh", "-c", help.example], cwd=self.good, capture_output=True, timeout=120, check=False,
             env={**self.desk.env, "PATH": f"{self.bin}:{os.environ['PATH']}"},
             stdin=subprocess.DEVNULL, preexec_fn=end_with_parent,
         )
-        what = f"{help.example}, in {folder.name}"
-        expect((what, done.returncode, done.stderr if done.returncode != status else b""),
-               (what, status, b""), what)
-        if status:
-            said = re.search(r"(?m)^[a-z]* (\d* [A-Za-z0-9]*)", done.stderr.decode())
-            if not said or said[1] not in help.named(status):
-                fail(f"{what}: help of status {status} lacks {done.stderr!r}")
+        expect((done.returncode, done.stderr), (0, b""), help.example)
 
     def serves(self, help: Help) -> None:
         """The example of `serve`, at a port that is free, with a connection for each that it
@@ -145,9 +125,8 @@ def test_each_refusal_that_help_names_has_its_status(desk: Program) -> None:
 
 
 @pytest.mark.long(10)
-def test_each_example_ends_with_the_statuses_that_help_says(desk: Program) -> None:
-    """One after another on one desk, as help has them. The examples of dbx and minutes write over
-    two of the files."""
+def test_each_example_does_as_help_says(desk: Program) -> None:
+    """One after another on one desk, as help has them."""
     examples = Examples(desk)
     for subcommand in SUBCOMMANDS:
         help = Help(desk, subcommand)
@@ -157,12 +136,5 @@ def test_each_example_ends_with_the_statuses_that_help_says(desk: Program) -> No
         if subcommand == "serve":
             examples.serves(help)
         else:
-            examples.runs(help, 0, examples.good)
-        for name in ("shimx64.efi", "dbx.esl", "digests.txt", "minutes.txt"):
-            (examples.refused / name).write_text("none\n")
-        for name in ("dbx.esl", "minutes.txt"):
-            (examples.broken / name).unlink(missing_ok=True)
-        # (the desk that `init` would make is there already)
-        examples.runs(help, 1, examples.good if subcommand == "init" else examples.refused)
+            examples.runs(help)
         expect(desk.run(subcommand).status, 2, f"desk {subcommand}")
-        examples.runs(help, 3, examples.broken)

@@ -10,7 +10,6 @@ Version, and `init` finds that the names are taken."""
 from __future__ import annotations
 
 import contextlib
-import re
 import sqlite3
 from pathlib import Path
 from typing import NamedTuple
@@ -200,12 +199,6 @@ def changes(path: str, sql: str) -> None:
         store.executescript(sql)
 
 
-def tables(path: str) -> set[str]:
-    with contextlib.closing(sqlite3.connect(path)) as store:
-        rows = store.execute("SELECT name FROM sqlite_master WHERE type = 'table'")
-        return {name for (name,) in rows}
-
-
 @pytest.fixture(scope="session")
 def sound(program_path: Path, session_room: Path) -> str:
     """A desk after DAY, to be copied."""
@@ -273,28 +266,3 @@ def test_each_subcommand_finds_no_desk_or_another_version(runs: Runs, sql: str) 
     for words in SUBCOMMANDS:
         wanted = b"refused 46 Exists\n" if words.startswith("init ") else STORES[sql]
         expect(runs.run(path, words), Ran(1, b"", wanted), f"desk {words}")
-
-
-def test_each_table_of_a_desk_has_a_spoilt_row(sound: str) -> None:
-    pattern = r"(?:UPDATE|INTO|DELETE FROM|TABLE) (\w+)"
-    spoilt = {
-        name for sql in (*(row.sql for row in ROWS), *STORES) for name in re.findall(pattern, sql)
-    }
-    expect(sorted(tables(sound) - spoilt), [], "tables without a spoilt row")
-
-
-def test_each_route_is_asked() -> None:
-    def route(given: bytes) -> tuple[str, str]:
-        method, path, _ = given.decode("latin-1").split(" ", 2)
-        return method, re.sub(r"/\d+", "/{no}", path.replace(HASHED, "{digest}"))
-
-    due = [(method.upper(), path) for method, path in ROUTES]
-    expect(sorted(route(given) for given in EACH), sorted(due), "the routes")
-
-
-def test_each_subcommand_that_opens_a_desk_is_run(desk: Program) -> None:
-    subcommands = set(re.findall(r"(?m)^  ([a-z]+)  ", desk.gives("help").decode())) - {"help"}
-    opens = {
-        one for one in subcommands if f"desk {one} <DB>" in desk.gives(one, "--help").decode()
-    }
-    expect(sorted({words.split()[0] for words in SUBCOMMANDS}), sorted(opens), "the subcommands")

@@ -17,7 +17,7 @@ from checks.support.says import expect
 from checks.support.tools import ran
 
 # The folders whose files go in, with those that don't.
-PAGE, WIRE = {"jsconfig.json", "package.json"}, {"README.md"}
+PAGE = {"jsconfig.json", "package.json"}
 
 
 def files(folder: Path, below: str = "") -> dict[str, bytes]:
