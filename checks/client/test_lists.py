@@ -79,3 +79,16 @@ def test_a_list_is_read_in_parts_and_no_further_than_it_is_shown(
     expect([one["number"] for one in rita.json("requests --limit 2 --from 1001")], [1001, 1002], "")
     expect(rita.json("requests --search 'no such title'"), [], "as JSON")
     rita.ends(2, "requests --limit 0", "no number")
+
+
+@pytest.mark.parametrize("pager, due", [
+    ("tr a-z A-Z", "  CLOUD-ARM64"), ("cat", "  cloud-arm64"), ("no-such-pager", "  cloud-arm64"),
+])
+def test_a_list_longer_than_the_terminal_goes_through_the_pager(
+    rita: Person, pager: str, due: str
+) -> None:
+    rita.env["PAGER"] = pager
+    assert due in rita.asked("requests --limit 30", size=(24, 120))[1]
+    # What fits needs none, and a file or a pipe gets none.
+    assert "  cloud-arm64" in rita.asked("requests --limit 5", size=(24, 120))[1]
+    assert "linux 6.12.118-1 cloud-arm64" in rita.does("requests --limit 30")

@@ -11,7 +11,7 @@ from checks.client.test_readme import SBAT, Signing, printed
 from checks.support.deskctl import Office
 from checks.support.images import digest, digest_list, sha256
 from checks.support.says import expect
-from checks.support.tools import EXAMPLES, ROOT, ran
+from checks.support.tools import EXAMPLES, ran
 
 PAGE = "docs/TOOLS.md"
 OLD, BUILD, SIGN, ARCHIVE, REVIEW = (
@@ -105,10 +105,3 @@ def test_each_script_of_the_page_does_what_the_page_says(office: Office) -> None
     signing = Signing(office)
     for part in (imports, builds, returns, takes, reviewed):
         part(signing)
-
-
-def test_no_line_that_is_typed_stands_outside_these_sections() -> None:
-    page = (ROOT / PAGE).read_text(encoding="utf-8")
-    lines = [line[4:] for line in page.split("\n") if line.startswith("    ")]
-    expect(lines, [*OLD, *BUILD, *SIGN, *ARCHIVE, *REVIEW], "the typed lines of the page")
-    assert len(page.split()) <= 600, "the page has more than 600 words"

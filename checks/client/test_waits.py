@@ -49,11 +49,6 @@ def test_only_a_command_goes_on_where_nobody_listens(monkeypatch: pytest.MonkeyP
     assert 0.1 <= few.times[-1] - few.times[0] < 0.3
 
 
-def test_a_commands_tries_are_a_minute_and_a_questions_are_three_seconds() -> None:
-    pauses = [min(tries.FIRST_PAUSE * 2**at, tries.LONGEST_PAUSE) for at in range(tries.RETRIES)]
-    assert 60 <= sum(pauses) < 65 and tries.NOBODY == terminal.PATIENCE == 3
-
-
 def test_a_port_without_a_desk_is_told_within_seconds(office: Office) -> None:
     nobody = Held()
     begun = time.monotonic()

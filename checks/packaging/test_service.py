@@ -2,15 +2,19 @@
 test_systemd.py."""
 from __future__ import annotations
 
+import os
 import re
 import shutil
+import signal
 import subprocess
+import urllib.request
 from pathlib import Path
 
 import pytest
 
 from checks.packaging.conftest import NAME, Package
-from checks.support.tools import ran
+from checks.support.tools import ROOT, end_with_parent, ran
+from checks.support.waits import until
 
 UNITS = "usr/lib/systemd/system"
 TIMED = ("kovelamiru-mirror", "kovelamiru-publish", "kovelamiru-standby")
@@ -69,3 +73,31 @@ def test_no_user_can_take_the_port_which_the_examples_name(package: Package) -> 
     examples = f"usr/share/doc/{NAME}/examples"
     assert f"server 127.0.0.1:{port};" in package.text(f"{examples}/nginx.conf")
     assert f" dport {{ {port}, 881 }} " in package.text(f"{examples}/desk.nft")
+
+
+# ---- the demo
+
+
+@pytest.mark.needs("curl", "nginx")
+def test_the_demo_serves_the_page_and_names_the_packages_program(
+    package: Package, room: Path
+) -> None:
+    said = room / "said"
+    with open(said, "wb") as out:
+        demo = subprocess.Popen(
+            [package.root / "usr/bin/desk-demo"], stdout=out, stderr=subprocess.STDOUT,
+            env={**os.environ, "TMPDIR": str(room)}, preexec_fn=end_with_parent,
+        )
+    try:
+        until(
+            280, "It shows ", lambda: "\nIt shows " in said.read_text() or demo.poll() is not None,
+            said.read_text,
+        )
+        assert demo.poll() is None, said.read_text()
+        assert "\nIt shows the package's program" in said.read_text(), said.read_text()
+        with urllib.request.urlopen(said.read_text().split()[0], timeout=60) as answer:
+            assert answer.read() == (ROOT / "page/index.html").read_bytes()
+    finally:
+        demo.send_signal(signal.SIGTERM)
+        demo.wait(60)
+    until(20, "the demo's folder is gone", lambda: [one.name for one in room.iterdir()] == ["said"])

@@ -97,3 +97,15 @@ def test_an_upload_under_way_keeps_the_page_open(browser: Browser, site: Site) -
     expect(browser.all("dialog"), [], "what covers an upload")
     browser.press("Stop")
     browser.uploads_at(-1)
+
+
+def test_whom_a_certificate_signs_in_goes_on_by_a_press(browser: Browser, site: Site) -> None:
+    site.relay.token = token("rita")
+    browser.driver.get(f"{site.base}/#/requests")
+    browser.sees("rita, reviewer")
+    later(browser, 31)
+    browser.sees(COVERED)
+    expect(browser.all("dialog input"), [], "the fields of the cover")
+    browser.press("Go on")
+    browser.asks_no_more()
+    expect(browser.module("desk/api.js", ASKED)["kind"], "value", "what is asked behind it")

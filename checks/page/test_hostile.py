@@ -9,6 +9,7 @@ from checks.support.messages import token
 from checks.support.says import expect
 from checks.support.waits import until
 
+LONG = "W" * 120
 MARKUP = "<img src=x onerror=\"document.title='taken'\"><b>bold</b>"
 POLICY = (
     "default-src 'none'", "script-src 'self'", "style-src 'self'", "img-src 'self'",
@@ -100,3 +101,14 @@ def test_a_page_of_another_origin_reads_nothing_and_changes_nothing(
     # Where a proxy sets Desk-Token itself, by a client's certificate, a form still has no Desk-Key.
     answer = site.ask("ann", "POST", "/requests/1/withdraw")
     expect((answer.status, answer.json()["name"]), (400, "BadField"), "a command without a key")
+
+
+def test_a_long_title_makes_no_view_wider_than_a_phone(browser: Browser, site: Site) -> None:
+    site.submits(unsigned(102), LONG)
+    browser.sign_in(token("rita"))
+    browser.width(360)
+    for view in ("requests", "requests/1"):
+        browser.go(view)
+        browser.sees(LONG)
+        wide = "document.documentElement.scrollWidth > document.documentElement.clientWidth"
+        assert not browser.script(f"return {wide}"), view

@@ -16,6 +16,11 @@ test('each refusal is told in its words, with what to do about it', () => {
     }
 });
 
+test('what isn’t the desk’s refusal is told, too', () => {
+    assert.match(explained({ name: 'HTTP 418' }).why, /The proxy refused it/);
+    assert.match(explained({ name: 'NoHashing' }).why, /can’t work out a SHA-256/);
+});
+
 test('a part that doesn’t come is told, and is asked for again', async () => {
     const fresh = await import('../../page/formats/wire.js?fresh');
     const parts = { sentences: 404 };

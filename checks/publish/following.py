@@ -1,7 +1,6 @@
 """A desk as it is shown to a standby: by its exports, changed as a test likes; and the standby."""
 from __future__ import annotations
 
-import subprocess
 import sys
 from pathlib import Path
 from typing import Iterator
@@ -10,8 +9,7 @@ from checks.publish.mirror import served
 from checks.publish.place import Place, private_token
 from checks.support.images import OWNER
 from checks.support.program import Program
-from checks.support.says import fail, note
-from checks.support.tools import ROOT
+from checks.support.tools import ROOT, ends
 
 
 class Shown:
@@ -39,16 +37,11 @@ class Standby:
     def follows(self, shown: Shown, status: int, says: str, *words: str | Path) -> str:
         """A run ends so, and says this; all that it said."""
         with served(shown) as (url, _):
-            asked = [sys.executable, "-IB", str(ROOT / "packaging/desk-standby"), str(self.db),
-                     str(self.minutes), *self.words, "--url", url, "--program", self.desk.path]
-            done = subprocess.run(
-                [*asked, *map(str, words)], stdout=subprocess.PIPE, stderr=subprocess.STDOUT,
-                text=True, timeout=300, check=False, cwd=self.room,
-            )
-        note(" ".join(asked), "", done.stdout)
-        if done.returncode != status or says not in done.stdout:
-            fail(f"{asked} {words}: {done.returncode} {done.stdout}\nin place of {status} {says}")
-        return done.stdout
+            asked: list[str | Path] = [
+                sys.executable, "-IB", ROOT / "packaging/desk-standby", self.db, self.minutes,
+                *self.words, "--url", url, "--program", self.desk.path,
+            ]
+            return ends(status, says, *asked, *words, cwd=self.room)
 
     def has(self, count: int, shown: Shown) -> None:
         """Both files have so many lines, those that are shown."""

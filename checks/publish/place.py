@@ -14,9 +14,9 @@ from typing import Any, Callable, Sequence
 from checks.support.images import OWNER, sha256
 from checks.support.messages import token
 from checks.support.program import Program, told
-from checks.support.says import expect, fail, note
+from checks.support.says import expect, note
 from checks.support.steps import Step, confirms, named, proposes, raising, takes
-from checks.support.tools import ROOT, end_with_parent, ran
+from checks.support.tools import ROOT, ends, ran
 
 PUBLISH = ROOT / "packaging" / "desk-publish"
 PEOPLE = ("ann/submitter", "olga/officer", "otto/officer", "oscar/officer")
@@ -113,18 +113,9 @@ class Place:
         of: Sequence[str] | None = None, env: dict[str, str] | None = None,
     ) -> str:
         """A run of desk-publish ends so, and says this; what it said in all."""
-        asked = [str(by), "out/published", "--owner", OWNER, "--program", self.desk.path]
-        asked += [*(of or ("--db", "desk.db")), *map(str, words)]
-        done = subprocess.run(
-            asked, cwd=self.room, env={**os.environ, **(env or {})}, timeout=300, check=False,
-            stdout=subprocess.PIPE, stderr=subprocess.STDOUT, preexec_fn=end_with_parent,
-        )
-        said = done.stdout.decode(errors="replace")
-        shown = " ".join(asked)
-        note(shown, "", said)
-        if done.returncode != status or says not in said:
-            fail(f"{shown}\n    wanted {status} {says}\n    came   {done.returncode} {said}")
-        return said
+        own = ("out/published", "--owner", OWNER, "--program", self.desk.path)
+        where = of or ("--db", "desk.db")
+        return ends(status, says, by, *own, *where, *words, cwd=self.room, env=env)
 
     def changed(self, name: str, *edits: tuple[str, str, str], tool: Path = PUBLISH) -> Path:
         """A desk-publish of its own, or another tool, whose modules have these edits: module,

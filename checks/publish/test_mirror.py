@@ -16,9 +16,9 @@ from checks.publish.mirror import files, served
 from checks.publish.place import SIGNERS, Place, key_of, number, spelled
 from checks.support.dripping import WAYS, dripping
 from checks.support.program import Program
-from checks.support.says import expect, fail, note
+from checks.support.says import expect
 from checks.support.steps import named
-from checks.support.tools import ROOT, ran
+from checks.support.tools import ROOT, ends, ran
 
 MIRROR = ROOT / "packaging" / "kovelamiru-mirror"
 KILLS = ROOT / "checks" / "publish" / "kills.py"
@@ -41,13 +41,7 @@ class Mirror:
     def runs(self, status: int, says: str, *words: str, by: Path = MIRROR) -> str:
         """A run ends so, and says this; all that it said."""
         self.asked.clear()
-        asked = [str(by), *self.words(*words)]
-        done = subprocess.run(asked, cwd=self.place.room, stdout=subprocess.PIPE,
-                              stderr=subprocess.STDOUT, text=True, timeout=120, check=False)
-        note(" ".join(asked), "", done.stdout)
-        if done.returncode != status or says not in done.stdout:
-            fail(f"{asked}: wanted {status} {says}, came {done.returncode} {done.stdout}")
-        return done.stdout
+        return ends(status, says, by, *self.words(*words), cwd=self.place.room)
 
     def shows(self, calls: int) -> None:
         """The publication of so many calls, whole."""

@@ -6,7 +6,6 @@ import contextlib
 import hashlib
 import re
 import shutil
-import subprocess
 import time
 from pathlib import Path
 from typing import Iterator
@@ -18,7 +17,7 @@ from checks.publish.mirror import files, served
 from checks.publish.place import SIGNERS, Place, made_key, number
 from checks.support.dripping import WAYS, dripping
 from checks.support.says import expect
-from checks.support.tools import ROOT, ran
+from checks.support.tools import ROOT, ends, ran
 
 pytestmark = pytest.mark.needs("openssl", "sign-efi-sig-list", "ssh-keygen")
 
@@ -184,11 +183,8 @@ class Mirror:
         (self.place.room / "known").write_text(f"{name} - {key}\n")
 
     def runs(self, status: int, says: str) -> None:
-        tool = str(ROOT / "packaging/kovelamiru-mirror")
-        done = subprocess.run(
-            [tool, str(self.folder), *self.words], cwd=self.place.room, text=True,
-            stdout=subprocess.PIPE, stderr=subprocess.STDOUT, timeout=300, check=False)
-        assert done.returncode == status and says in done.stdout, done
+        tool = ROOT / "packaging/kovelamiru-mirror"
+        ends(status, says, tool, self.folder, *self.words, cwd=self.place.room)
 
 
 @pytest.fixture
@@ -273,3 +269,17 @@ def test_without_witnesses_nothing_is_gone_from_a_mirror(mirror: Mirror) -> None
         forged(place, **{name: data}, **texts)
         mirror.runs(1, says)
         shutil.copytree(real, place.link, dirs_exist_ok=True)
+
+
+@pytest.mark.parametrize("text, says", (
+    ("one\n", "no witness is 'one'"), ("../x - ssh-ed25519 AAAA\n", "no witness is '../x - ssh"),
+    ("{0}{0}", "two witnesses have one name or one key"),
+))
+def test_a_list_that_is_none_is_said(signed: Place, one: Witness, text: str, says: str) -> None:
+    words = listed(signed, one)
+    path = signed.room / "witnesses"
+    path.write_text(text.format(path.read_text()))
+    signed.revokes(number(3))
+    signed.publish(2, says, *words)
+    path.chmod(0o666)
+    signed.publish(2, "others can write witnesses", *words)

@@ -58,7 +58,7 @@ READINGS = [
     reads("olga", "/minutes/1", text(minutes(1, *ADDED))),
     reads("olga", "/people", ok([{"name": name, "role": PEOPLE[name]} for name in sorted(PEOPLE)])),
     *(reads(name, "/me", ok({"name": name, "role": role})) for name, role in PEOPLE.items()),
-    tells("ann", ODD), tells("sid", RETURNED, [TBS]),
+    tells("ann", ODD), tells("sid", with_table(PLAIN, TABLE), [TBS]),
     tells("olga", grub(2), components=[("sbat", 1), ("grub", 2)]),
     refuses(2, "rita", "unused", "/facts", bytes(64)),
     submits("ann", "k1", ODD, TITLE, 1), submits("rita", "k1", PADDED, "B", 2),

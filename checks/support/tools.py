@@ -8,8 +8,9 @@ import signal
 import subprocess
 import tempfile
 from pathlib import Path
+from typing import Mapping
 
-from checks.support.says import fail
+from checks.support.says import fail, note
 
 ROOT = Path(__file__).resolve().parents[2]
 EXAMPLES = ROOT / "examples"
@@ -65,6 +66,22 @@ def ran(
             f"{done.stderr.decode(errors='replace')}"
         )
     return done.stdout
+
+
+def ends(
+    status: int, says: str, *words: str | Path, cwd: Path, env: Mapping[str, str] | None = None,
+) -> str:
+    """A tool ends so and says this, on either output; all that it said."""
+    asked = [*map(str, words)]
+    done = subprocess.run(
+        asked, cwd=cwd, env={**os.environ, **(env or {})}, timeout=300, check=False,
+        stdout=subprocess.PIPE, stderr=subprocess.STDOUT, preexec_fn=end_with_parent,
+    )
+    said = done.stdout.decode(errors="replace")
+    note(" ".join(asked), "", said)
+    if done.returncode != status or says not in said:
+        fail(f"{asked}\n    wanted {status} {says}\n    came   {done.returncode} {said}")
+    return said
 
 
 def library(room: Path, name: str) -> Path:
