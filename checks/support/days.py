@@ -9,7 +9,6 @@ from checks.support.images import (
 from checks.support.largest import LARGEST
 from checks.support.messages import octets, ok, refused, text, token
 from checks.support.readings import READINGS
-from checks.support.reasons import REASONS
 from checks.support.steps import (
     Step, again, closes, confirms, drops, grub, judges, lists, named, proposal, proposes, raising,
     reads, refuses, returns, reviews, shown, submits, takes, vote
@@ -193,6 +192,6 @@ FIRST_REQUESTS = [
 # By name. Each begins on a desk of the people alone. The model (checks/model) has the rest.
 DAYS = {
     "reviews": REVIEWS, "returns": RETURNS, "levels": LEVELS, "lists": LISTS, "files": FILES,
-    "two proposals": TWO_PROPOSALS, "reasons": REASONS, "readings": READINGS, "tags": TAGS,
+    "two proposals": TWO_PROPOSALS, "readings": READINGS, "tags": TAGS,
     "first requests": FIRST_REQUESTS, "the largest": LARGEST,
 }
