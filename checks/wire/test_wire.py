@@ -10,7 +10,6 @@ import sys
 import uuid
 from typing import Any, Dict, Iterator, List, Set, Tuple
 
-import pytest
 
 from checks.support.tools import ROOT
 from checks.support.wire import FOLDER, wire
@@ -34,12 +33,6 @@ def test_the_refusals_are_those_of_the_desk_word_for_word() -> None:
     assert said == due, "the order differs"
 
 
-def test_a_new_refusal_stands_last_with_the_next_number() -> None:
-    numbers = [one["number"] for one in REFUSALS]
-    late = [one["name"] for no, one in zip(numbers, REFUSALS[1:]) if one["number"] <= no]
-    assert late == [], f"its number is taken or stands elsewhere; the next is {max(numbers) + 1}"
-
-
 def test_each_refusal_has_the_status_of_its_responses() -> None:
     due = rattle.status_of_refused()
     for one in REFUSALS:
@@ -52,15 +45,6 @@ def test_a_refused_request_has_the_refusals_sentence() -> None:
     told = rattle.variants("http_responses/src/refused.rt", "Refused")
     other = {name: text for name, text in told.items() if text != means.get(name)}
     assert told and other == {}, "refused.rt has it, refusals.json hasn't"
-
-
-@pytest.mark.parametrize("one", REFUSALS, ids=[one["name"] for one in REFUSALS])
-def test_a_refusal_says_what_a_person_does_next(one: Dict[str, Any]) -> None:
-    ways = [{"next"}, {"page", "terminal"}]
-    assert set(one) - {"number", "name", "kind", "status", "early", "means", "told"} in ways
-    for name in ("means", "told", "next", "page", "terminal"):
-        text = one.get(name, "A text.")
-        assert text.isascii() and re.fullmatch(r"[A-Z`].*[.?]|.*: \S.*", text), text
 
 
 def test_the_phrases_are_those_of_the_statuses() -> None:
