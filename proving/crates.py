@@ -6,8 +6,6 @@ import hashlib
 import os
 
 ROOT = os.path.dirname(os.path.dirname(os.path.realpath(__file__)))
-# The folders of a crate that have its sources.
-PARTS = ("src", "specs", "proofs")
 # The crates that each crate lists.
 Graph = dict[str, list[str]]
 
@@ -25,8 +23,7 @@ def listed() -> dict[str, str]:
 
 def crates_below(name: str) -> Graph:
     """The crate and those that it stands on, each after those that it lists: a map to those."""
-    lines = listed()
-    found: Graph = {}
+    lines, found = listed(), Graph()
 
     def add(crate: str) -> None:
         if crate in lines and crate not in found:
@@ -39,39 +36,19 @@ def crates_below(name: str) -> Graph:
     return found
 
 
-def all_below(crate: str, below: Graph) -> set[str]:
-    found: set[str] = set()
-    for library in below[crate]:
-        found |= {library} | all_below(library, below)
-    return found
-
-
 def is_program(crate: str) -> bool:
     return os.path.exists(f"{folder_of(crate)}/src/main.rt")
 
 
 def files_of(crate: str) -> list[str]:
     """The files of the crate's sources, in one order."""
-    return sorted(
-        f"{at}/{name}"
-        for part in PARTS
-        for at, _, names in os.walk(f"{folder_of(crate)}/{part}")
-        for name in names
-    )
-
-
-def lines_of(crate: str) -> int:
-    count = 0
-    for file in files_of(crate):
-        if file.endswith((".rt", ".antt")):
-            with open(file, "rb") as text:
-                count += text.read().count(b"\n")
-    return count
+    parts = [f"{folder_of(crate)}/{part}" for part in ("src", "specs", "proofs")]
+    walked = [(at, names) for part in parts for at, _, names in os.walk(part)]
+    return sorted(f"{at}/{name}" for at, names in walked for name in names)
 
 
 def sum_of_files(crate: str) -> str:
-    """The sum of the lines of crates.txt and of the files of the crate and of those below it.
-    Unlike the kit's own sum it is that of the sources alone, and takes no kit."""
+    """The sum of the lines of crates.txt and of the files of the crate and of those below it."""
     lines, found = listed(), hashlib.sha256()
     for name in sorted(crates_below(crate)):
         found.update(lines[name].encode())
