@@ -1,10 +1,10 @@
-// The files of one upload: requests of one submitter whose titles are alike but for what tells the
-// files apart. The desk knows no uploads, and each file has votes of its own.
+// The files of one upload: requests of one submitter whose titles are alike up to a last ` / `. The
+// desk knows no uploads, and each file has votes of its own.
 
 import { get } from './api.js';
 import { me } from './session.js';
 import { standing } from './standing.js';
-import { groupOf, nameOf, namesArch } from './titles.js';
+import { groupOf, nameOf } from './titles.js';
 import { waitingNow } from './waiting.js';
 import { votesBy } from '../formats/words.js';
 
@@ -69,10 +69,6 @@ export const waitsForVote = ({ state, submitter, votes }) => (
     me.reviewer && state === 'open' && submitter !== me.name
         && !votes.some(({ reviewer }) => reviewer === me.name)
 );
-
-// The architecture that a title names, or ''; the desk records none.
-/** @param {string} title */
-export const architectureIn = (title) => title.split(' ').find(namesArch) ?? '';
 
 /**
  * Of each name among these the request that was signed last, as far as the parts of the list have
