@@ -1,4 +1,4 @@
-"""Help, the manual page and the completions, and deskctl as one file."""
+"""Help, the manual page and the completions."""
 from __future__ import annotations
 
 import re
@@ -33,12 +33,9 @@ def helps(command: list[str], *words: str) -> str:
     return text
 
 
-def test_help_has_the_commands_in_one_file_too(command: list[str], tmp_path: Path) -> None:
-    text = helps(command)
-    found = re.findall(r"(?m)^  ([a-z-]*[a-z])  ", text)
+def test_help_has_the_commands(command: list[str]) -> None:
+    found = re.findall(r"(?m)^  ([a-z-]*[a-z])  ", helps(command))
     expect([name for name in found if not name.startswith("-")], COMMANDS, "the commands of help")
-    ran(sys.executable, "-B", ROOT / "client" / "one_file.py", tmp_path / "one")
-    expect(ran(tmp_path / "one", "--help").decode(), text, "the help of deskctl as one file")
 
 
 @pytest.mark.parametrize("name", COMMANDS)

@@ -1,9 +1,9 @@
-"""The text of the package kovelamiru and of what packs it: types, size, what imports what; and
-deskctl as one file."""
+"""The text of the package kovelamiru: types, size, what imports what."""
 from __future__ import annotations
 
 import ast
 import os
+import re
 import subprocess
 from pathlib import Path
 
@@ -13,8 +13,7 @@ from checks.support.tools import ROOT
 
 PACKAGE = ROOT / "python" / "kovelamiru"
 MODULES = sorted(PACKAGE.rglob("*.py"))
-PACKED = [ROOT / "python" / "__main__.py", *(ROOT / "client").glob("*.py")]
-OTHERS = [*PACKED, *(ROOT / "packaging").glob("*.py"), ROOT / "client" / "deskctl",
+OTHERS = [*(ROOT / "client").glob("*.py"), *(ROOT / "packaging").glob("*.py"), ROOT / "client" / "deskctl",
           ROOT / "packaging" / "desk-publish", ROOT / "packaging" / "desk-standby"]
 # The programs, none of which takes a module of another, and which no other module takes.
 PROGRAMS = ("deskctl", "publish", "standby")
@@ -82,9 +81,8 @@ def test_the_second_opinion_takes_none_of_it() -> None:
     assert run("python3", "-B", "-c", code, PYTHONPATH=f"{ROOT}:{ROOT / 'python'}") == (0, "")
 
 
-def test_one_file_has_the_same_bytes_each_time(tmp_path: Path) -> None:
-    for name, zone in (("one", "UTC"), ("two", "Asia/Tokyo")):
-        pack = ROOT / "client" / "one_file.py"
-        assert run("python3", "-B", pack, tmp_path / name, TZ=zone) == (0, "")
-    assert (tmp_path / "one").read_bytes() == (tmp_path / "two").read_bytes()
-    assert run(tmp_path / "one", "--help") == run(ROOT / "client" / "deskctl", "--help")
+def test_one_place_prints_for_people() -> None:
+    """It escapes what would move a terminal's cursor: the terminal of deskctl, `tell` elsewhere."""
+    prints = re.compile(r"\bprint\(|\bstd(out|err)\.(buffer|write)|\.(out|err)\.")
+    found = {path.name for path in MODULES if prints.search(path.read_text(encoding="utf-8"))}
+    assert found == {"terminal.py", "words.py"}

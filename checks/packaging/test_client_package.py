@@ -2,7 +2,6 @@
 from __future__ import annotations
 
 import shutil
-import zipfile
 from pathlib import Path
 
 import pytest
@@ -12,8 +11,8 @@ from checks.support.tools import ran
 
 # What of python/ is no part of deskctl.
 OTHERS = (
-    "publish", "checkpoints.py", "mirror.py", "fetch.py", "programs.py", "reader.py", "standby.py",
-    "shim.py", "wire", "__pycache__", "README.md",
+    "publish", "checkpoints.py", "fetch.py", "programs.py", "reader.py", "standby.py", "shim.py",
+    "wire", "__pycache__",
 )
 
 
@@ -25,15 +24,13 @@ def test_it_is_the_same_bytes_wherever_it_is_made(
     quiet("cmp", client_package.deb, again)
 
 
-def test_deskctl_is_one_file_of_its_modules_and_their_data(
-    tree: Copy, client_package: Package, room: Path
-) -> None:
-    with zipfile.ZipFile(client_package.root / "usr/bin/deskctl") as packed:
-        packed.extractall(room)
+def test_deskctl_has_its_modules_and_their_data(tree: Copy, client_package: Package) -> None:
+    package = client_package.root / "usr/lib/kovelamiru-deskctl/kovelamiru"
     modules = [word for name in OTHERS for word in ("-x", name)]
-    quiet("diff", "-r", *modules, tree.root / "python", room)
-    data = room / "kovelamiru" / "wire"
-    quiet("diff", "-r", "-x", "README.md", "-x", "cases", tree.root / "page/wire", data)
+    quiet("diff", "-r", *modules, tree.root / "python/kovelamiru", package)
+    assert not {path.name for path in package.rglob("*")} & ({*OTHERS} - {"wire"})
+    data = ("-x", "README.md", "-x", "cases", tree.root / "page/wire", package / "wire")
+    quiet("diff", "-r", *data)
 
 
 def test_deskctl_runs_and_has_the_version_of_the_desk(

@@ -83,7 +83,7 @@ def print_all(run: Run, values: Iterable[dict[str, Any]]) -> None:
     """As the desk's own JSON, one after another."""
     begin = "["
     for value in values:
-        run.terminal.out.write(begin + desk_json(value))
+        run.terminal.say(begin + desk_json(value), end="")
         begin = ","
     run.terminal.say("]" if begin == "," else "[]")
 

@@ -7,6 +7,7 @@ import hashlib
 import os
 import secrets
 import stat
+import sys
 
 from ..answers import caller_of
 from ..faults import REFUSED, Stop, reason, wrong
@@ -107,7 +108,7 @@ def minutes(run: Run) -> None:
 
 def token(run: Run) -> None:
     """A new token. Only its owner's file gets it; what is printed is its SHA-256."""
-    into, out = run.words.output, run.terminal.out
+    into = run.words.output
     made = "desk_" + secrets.token_urlsafe(32)
     line = (made + "\n").encode()
     if into:
@@ -120,14 +121,14 @@ def token(run: Run) -> None:
             wrong(f"{into}: {reason(error)}", "A token is written into a new file, over none.")
         run.terminal.say(hashlib.sha256(made.encode()).hexdigest())
         return
-    found = os.fstat(out.fileno())
-    if out.isatty():
+    found = os.fstat(sys.stdout.fileno())
+    if run.terminal.wide:
         wrong("a token isn't for a terminal", "deskctl token > FILE, or deskctl token -o FILE")
     if stat.S_ISREG(found.st_mode):
         if found.st_size:
             wrong("the file has something in it already", "A token is a file's first line.")
-        os.fchmod(out.fileno(), 0o600)
-    out.buffer.write(line)
+        os.fchmod(sys.stdout.fileno(), 0o600)
+    run.terminal.data(line)
     run.terminal.flush()
     run.terminal.warn(hashlib.sha256(made.encode()).hexdigest())
 
