@@ -112,9 +112,7 @@ others go on, with status 1. Votes go out in turn, none behind one that is refus
 looked at isn't what is there: deskctl says which ones are in, and with which numbers to go on.
 Where no answer comes the others aren't sent: the same command goes on.
 
-Without a terminal deskctl sends nothing where it would ask, unless `--yes` is given. A desk that
-is older than deskctl doesn't show what a proposal names: then `confirm` says so, and asks for the
-count of its entries."""
+Without a terminal deskctl sends nothing where it would ask, unless `--yes` is given."""
 IMPORTS = """\
 The kind of a file is found by its bytes. Signature lists may stand behind
 EFI_VARIABLE_AUTHENTICATION_2, as sign-efi-sig-list and sbvarsign write it (its lengths and GUIDs
@@ -131,7 +129,7 @@ whenever it signed. `--dry-run` says all of this and sends nothing; it needs a d
 what is new."""
 IMAGES = """\
 `facts`, `compare`, `revoke` and `list-digest` take what an image is from the desk (POST /facts), or
-from the program desk: where `--program` names one, where no desk is named, and at an older desk.
+from the program desk: where `--program` names one, and where no desk is named.
 `compare` says of a file that it is the one of a request, or the same image with another signature
 table (`digest` or `signing` is equal), or another image, and what differs. `facts` and `compare`
 say what dbx, the level and db say of it today.

@@ -7,7 +7,7 @@ from typing import Any
 
 import pytest
 
-from checks.support.between import OLDER, Between, answer, shown
+from checks.support.between import Between, answer, shown
 from checks.support.client_day import ODD, SIGNED, TBS, TODAY
 from checks.support.deskctl import NO_TERMINAL, Office, Person
 from checks.support.images import PLAIN, authenticode, digest, sha256, with_table, with_text
@@ -43,24 +43,14 @@ def expected(value: Any) -> str:
                   value["passed"])
 
 
-def test_a_desk_without_the_routes_is_told_of(office: Office, between: Between) -> None:
-    """A Confirm then asks for the count of entries."""
+def test_a_desk_without_a_route_is_told_of(office: Office, between: Between) -> None:
+    """In one line; nothing is sent."""
     otto = office["otto"].at(between.url)
-    between.shows = {path: refused(53) for path in (PATH, IMPACT_PATH, "/people", "/minutes/1")}
-    line = f"revoke --digest {digest('41')} --digest {digest('42')}"
-    office["olga"].does(line, "proposal 1")
-    counts = "proposal 1 of olga: open; 2 digests, 0 certificates, 0 components"
-    otto.ends(1, "proposal 1", "doesn't show what a proposal names", out=[counts])
-    otto.ends(1, "proposal 1 --json", "refused 53 NoRoute")
-    otto.ends(2, "confirm 1", "2 digests", "doesn't show what a proposal names", "no terminal")
-    otto.ends(2, "confirm 1 --bars 0 --yes", "--bars can't be compared")
-    otto.ends(2, f"confirm 1 --expect {digest('00')} --yes", "--expect can't be compared")
-    for typed, status in (("1", 2), ("2", 0)):
-        ended, found = otto.asked("confirm 1", typed)
-        assert ended == status and "how many entries it has" in found, found
-        assert ("proposal 1 confirmed" in found) == (status == 0), found
-    for line in ("people", "minutes", "minutes --into older.minutes"):
-        otto.ends(1, line, "refused 53 NoRoute", "older than deskctl", "desk minutes")
+    between.shows = {path: refused(53) for path in (PATH, "/people", "/minutes/1")}
+    office["olga"].does(f"revoke --digest {digest('41')}", "proposal 1")
+    for line in ("proposal 1", "confirm 1 --yes", "people", "minutes", "minutes --into older"):
+        otto.ends(1, line, "refused 53 NoRoute", "older than deskctl")
+    otto.does("proposals", "1\topen")
 
 
 @pytest.fixture
@@ -109,12 +99,9 @@ def signed(office: Office) -> Office:
     return office
 
 
-@pytest.mark.parametrize("older", [None, *OLDER])
 def test_a_confirm_of_digests_asks_for_their_requests_alone(
-    signed: Office, between: Between, older: str | None
+    signed: Office, between: Between
 ) -> None:
-    """An older desk's list is read, and tells the same."""
-    between.older = OLDER.get(older or "")
     otto = signed["otto"].at(between.url)
     otto.does("confirm 1 --yes", "confirmed: 4 new digests, 1 new certificate", err=[
         f"! {sha256(ODD)} is the SHA-256 of the whole file of request 1 (open, odd)",
@@ -124,8 +111,7 @@ def test_a_confirm_of_digests_asks_for_their_requests_alone(
     ])
     names = sorted([sha256(ODD), authenticode(ODD), sha256(RETURNED), TBS])
     due = [f"/requests/with/{name}" for name in names]
-    parts = ["/requests/from/1", "/requests/from/3"]
-    expect(between.asked("/requests"), due[:1] + parts if older else due, "what was asked for")
+    expect(between.asked("/requests"), due, "what was asked for")
 
 
 def test_the_doubts_of_a_proposal_fit_a_terminal(signed: Office) -> None:

@@ -1,5 +1,4 @@
-"""deskctl inbox: what waits for each role, and one's own under way, by a desk that tells it and by
-an older one."""
+"""deskctl inbox: what waits for each role, and one's own under way."""
 from __future__ import annotations
 
 import datetime
@@ -10,7 +9,7 @@ from checks.support.between import Between, shown
 from checks.support.client_day import BOTH, ODD
 from checks.support.deskctl import Office
 from checks.support.images import PLAIN, authenticode, digest
-from checks.support.messages import posted, refused
+from checks.support.messages import posted
 from checks.support.says import expect
 from checks.support.steps import named, vote
 from kovelamiru.journal import now
@@ -19,13 +18,13 @@ from kovelamiru.waiting import age
 # What each sees once rita has agreed to ann's first request, and one of raul's own is open. The
 # image of the second one is barred.
 DUE: dict[str, list[str]] = {
-    "ann": ["yours request 1 linux 6.12 amd64|ann|1 of 2 yes, by rita|-",
-            "yours request 2 linux 6.12 arm64|ann|0 of 2 yes|barred",
+    "ann": ["yours request 1 linux 6.12 / amd64|ann|1 of 2 yes, by rita|-",
+            "yours request 2 linux 6.12 / arm64|ann|0 of 2 yes|barred",
             "yours request 4 shim|ann|approved|-"],
-    "rita": ["waits request 2 linux 6.12 arm64|ann|0 of 2 yes|barred",
+    "rita": ["waits request 2 linux 6.12 / arm64|ann|0 of 2 yes|barred",
              "waits request 3 mine|raul|0 of 2 yes|-"],
-    "raul": ["waits request 1 linux 6.12 amd64|ann|1 of 2 yes, by rita|-",
-             "waits request 2 linux 6.12 arm64|ann|0 of 2 yes|barred",
+    "raul": ["waits request 1 linux 6.12 / amd64|ann|1 of 2 yes, by rita|-",
+             "waits request 2 linux 6.12 / arm64|ann|0 of 2 yes|barred",
              "yours request 3 mine|raul|0 of 2 yes|-"],
     "sid": ["waits request 4 shim|ann|approved|-"],
     "olga": ["yours proposal 2 2 digests, 1 certificate|olga|-"],
@@ -34,7 +33,8 @@ DUE: dict[str, list[str]] = {
 
 
 POSTS: list[tuple[str, str, bytes, str]] = [
-    ("ann", "/requests", PLAIN, "linux 6.12 amd64"), ("ann", "/requests", ODD, "linux 6.12 arm64"),
+    ("ann", "/requests", PLAIN, "linux 6.12 / amd64"),
+    ("ann", "/requests", ODD, "linux 6.12 / arm64"),
     ("raul", "/requests", PLAIN, "mine"), ("ann", "/requests", PLAIN, "shim"),
     ("ann", "/requests", PLAIN, "gone"), ("ann", "/requests/5/withdraw", b"", ""),
     ("rita", "/requests/1/review", vote("yes"), ""),
@@ -59,12 +59,7 @@ def seen(office: Office, name: str, line: str = "inbox") -> list[str]:
     return [one.replace("\t", " ", 3).replace("\t", "|") for one in lines]
 
 
-@pytest.mark.parametrize("older", [False, True])
-def test_each_role_sees_what_waits_for_it(filled: Office, between: Between, older: bool) -> None:
-    """The same by a desk that is older than the route, and by `deskctl` alone."""
-    if older:
-        between.shows["/waiting"] = between.shows["/changes"] = refused(53)
-        filled.people.update(filled.people_at(between.url))
+def test_each_role_sees_what_waits_for_it(filled: Office) -> None:
     for name in DUE:
         expect(seen(filled, name), DUE[name], f"what {name} sees")
     expect(seen(filled, "rita", ""), DUE["rita"], "deskctl alone")

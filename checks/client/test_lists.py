@@ -9,7 +9,6 @@ import pytest
 from checks.support.between import Between, shown
 from checks.support.deskctl import Office, Person
 from checks.support.images import digest
-from checks.support.messages import refused
 from checks.support.says import expect
 from checks.support.wire import wire
 from kovelamiru.search import proposal_matches, request_matches
@@ -81,12 +80,6 @@ def test_a_list_is_read_in_parts_and_no_further_than_it_is_shown(
     expect([one["number"] for one in rita.json("requests --limit 2 --from 1001")], [1001, 1002], "")
     expect(rita.json("requests --search 'no such title'"), [], "as JSON")
     rita.ends(2, "requests --limit 0", "no number")
-
-
-def test_an_older_desks_whole_list_is_read_the_same(rita: Person, between: Between) -> None:
-    rows = [row(number) for number in range(1, COUNT + 1)]
-    between.shows = {"/requests": shown(rows), "/requests/from/1999": refused(53)}
-    expect(numbers(rita, "--from 1999"), [1999, 2000], "the rows of an older desk")
 
 
 def test_an_empty_list_says_what_was_asked_for(office: Office) -> None:

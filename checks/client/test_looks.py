@@ -9,7 +9,6 @@ from checks.support.between import BUSY, HTML, Between, answer
 from checks.support.cases import row_bytes
 from checks.support.deskctl import Office
 from checks.support.images import PLAIN, authenticode, signing, with_text
-from checks.support.messages import refused
 from checks.support.says import expect
 from checks.support.wire import wire
 
@@ -169,16 +168,9 @@ def test_several_verdicts_are_a_line_a_file_and_the_worst_status(office: Office)
     expect((said.status, said.err.count("refused 20")), (1, 1), "an unknown caller")
 
 
-def test_a_desk_that_doesnt_tell_who_calls_names_nobody(office: Office, between: Between) -> None:
-    """`me`; facts then come from the program, if it is named."""
-    office["ann"].does("me", "ann submitter")
-    expect(office["olga"].json("me"), {"name": "olga", "role": "officer"}, "me as JSON")
-    office["olga"].does(f"revoke --digest {'77' * 32}")
-    between.shows["/me"] = refused(53)
-    ann, olga = office["ann"].at(between.url), office["olga"].at(between.url)
-    ann.ends(1, "me", "doesn't tell who you are", "older than deskctl")
-    ann.ends(2, "requests --mine", "--mine needs your name, which this desk doesn't tell")
-    ann.does("requests --mine --name ann")
-    olga.ends(1, "confirm 1 --yes", "refused 38 OwnProposal")
+def test_it_says_who_calls_and_facts_come_from_the_named_program(office: Office) -> None:
+    ann, olga = office["ann"], office["olga"]
+    ann.does("me", "ann submitter")
+    expect(olga.json("me"), {"name": "olga", "role": "officer"}, "me as JSON")
     ann.env["DESK_PROGRAM"] = office.desk.path
     ann.does("facts signed.efi", "signature   1: over SHA-256")

@@ -1,5 +1,5 @@
-"""What a search by digests tells is what the whole list tells: at an older desk, behind an older
-proxy and for many digests the list is read. What is asked for it."""
+"""What a search by digests tells is what the whole list tells, which is read for many digests. What
+is asked for it."""
 from __future__ import annotations
 
 import io
@@ -15,7 +15,7 @@ from kovelamiru.answers import MOST, Having, Request, having, shaped
 from kovelamiru.desk import PART, Desk
 from kovelamiru.deskctl import returns, submits
 from kovelamiru.facts import Facts
-from kovelamiru.faults import Lost, NoPath, Refused, Stop
+from kovelamiru.faults import Lost, Refused, Stop
 from kovelamiru.http import BYTES, JSON, TEXT, Answer, Call, address
 from kovelamiru.terminal import Terminal
 
@@ -62,7 +62,7 @@ def has(one: dict[str, Any], digest: str) -> bool:
 
 
 class Held(Desk):
-    """A desk that holds these requests; by `lacks` it has no search, or what is before it."""
+    """A desk that holds these requests; a search ends by `lacks`."""
 
     def __init__(self, held: Sequence[dict[str, Any]], lacks: Optional[Stop] = None) -> None:
         terminal = Terminal(io.StringIO(), io.StringIO())
@@ -87,8 +87,15 @@ class Held(Desk):
         return [path.removeprefix("/requests/") for path in self.asked if "/requests" in path]
 
 
-def older() -> Held:
-    return Held(HELD, Refused(53, "NoRoute"))
+class Listing(Held):
+    """It is asked for no digest: the list is read."""
+
+    def requests_with(self, digest: str) -> None:
+        return None
+
+
+def listing() -> Held:
+    return Listing(HELD)
 
 
 def run_at(desk: Desk) -> Any:
@@ -118,13 +125,13 @@ CASES: list[tuple[list[str], list[str], str]] = [
 def test_a_search_tells_what_the_list_tells(
     digests: list[str], certificates: list[str], text: str
 ) -> None:
-    desk, before = Held(HELD), older()
+    desk, before = Held(HELD), listing()
     found = told(desk, digests, certificates)
     expect(found, told(before, digests, certificates), "what is told")
     assert text in str(found), found
     due = sorted({f"with/{one}" for one in (*digests, *certificates)})
     expect(desk.requests(), due, "what is asked of requests")
-    expect(before.requests()[:2], [due[0], "from/1"], "what an older desk is asked")
+    expect(before.requests()[:1], ["from/1"], "what is asked of the list")
 
 
 def test_the_list_is_read_for_names_alone_and_tells_nothing_again() -> None:
@@ -134,7 +141,7 @@ def test_the_list_is_read_for_names_alone_and_tells_nothing_again() -> None:
     for count, due in ((2, parts[:0]), (3, parts[:1]), (4, parts)):
         desk = Held(HELD)
         found = told(desk, [SIGNING], [LONE], raised[:count])
-        expect(found, told(older(), [SIGNING], [LONE], raised[:count]), f"{count} names")
+        expect(found, told(listing(), [SIGNING], [LONE], raised[:count]), f"{count} names")
         expect(desk.requests(), [f"with/{SIGNING}", f"with/{LONE}", *due], f"{count} names")
     desk = Held(HELD)
     doubts.known(desk, [], [], raised[1:2])
@@ -146,7 +153,7 @@ def test_many_digests_and_other_words_are_looked_for_in_the_list() -> None:
     for more, way in (([DIGEST], "with/"), ([DIGEST, LONE], "from/"), (["no digest"], "from/")):
         desk = Held(HELD)
         found = told(desk, few + more, [])
-        expect(found, told(older(), few + more, []), "what is told")
+        expect(found, told(listing(), few + more, []), "what is told")
         expect({path[:5] for path in desk.requests()}, {way}, f"{len(few + more)} digests")
 
 
@@ -155,7 +162,7 @@ def test_a_token_that_was_typed_as_a_digest_goes_into_no_address(token: str) -> 
     """It may have a digest's form; the list is read then."""
     desk = Held(HELD)
     found = told(desk, [DIGEST, token], [])
-    expect(found, told(older(), [DIGEST, token], []), "what is told")
+    expect(found, told(listing(), [DIGEST, token], []), "what is told")
     expect([path for path in desk.asked if TOKEN in path.lower()], [], "the addresses with it")
 
 
@@ -195,16 +202,11 @@ def test_what_waits_for_a_signature_is_no_more_searched_for(
     digests: list[str], numbers: list[int], asked: list[str]
 ) -> None:
     images = [returns.Image(one, b"", Facts(512, 0, of(90), one, one, [], [])) for one in digests]
-    desk, before = Held(HELD), older()
+    desk, before = Held(HELD), listing()
     found = returns.candidates(run_at(desk), images)
     expect(([one.number for one in found], desk.requests()), (numbers, asked), "the requests")
     found = returns.candidates(run_at(before), images)
     expect([one.number for one in found], [12] if not asked else [*range(1, 10)], "by the list")
-
-
-def test_behind_an_older_proxy_the_list_is_read() -> None:
-    desk = Held(HELD, NoPath(1, "refused by the proxy: 404 Not Found"))
-    expect(told(desk, [FILE], [LONE]), told(older(), [FILE], [LONE]), "what is told")
 
 
 @pytest.mark.parametrize("stop", [

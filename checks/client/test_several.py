@@ -9,7 +9,7 @@ from typing import Any
 import pytest
 
 from checks.client.test_looks import CASES
-from checks.support.between import NO_ANSWER, OLDER, Between, instead
+from checks.support.between import NO_ANSWER, Between, instead
 from checks.support.client_day import ODD, SIGNED
 from checks.support.deskctl import NO_TERMINAL, Office
 from checks.support.images import PLAIN, TABLE, authenticode, changed, with_table
@@ -241,12 +241,8 @@ def test_each_file_of_a_folder_goes_to_the_request_of_its_image(signing: Office)
     signing.refuses("sid", "return missing", "No such file")
 
 
-@pytest.mark.parametrize("older", [None, *OLDER])
-def test_only_requests_of_a_files_image_are_asked_for(
-    signing: Office, between: Between, older: str | None
-) -> None:
-    """Where none of the image waits; at an older desk all are."""
-    between.older = OLDER.get(older or "")
+def test_only_requests_of_a_files_image_are_asked_for(signing: Office, between: Between) -> None:
+    """Where none of the image waits."""
     strange = changed(PLAIN, (600, "ff"))
     signing.file("signed/strange.efi", strange)
     sid = signing["sid"].at(between.url)
@@ -254,9 +250,7 @@ def test_only_requests_of_a_files_image_are_asked_for(
     sid.ends(2, "return signed --yes", "signed/amd64.efi: request 1 has it already.", *LEFT_OUT)
     left, due = [authenticode(PLAIN), authenticode(strange)], []
     for names in (left, [*left, authenticode(ODD + bytes(3))]):
-        searches = [f"/requests/with/{name}" for name in sorted(names)]
-        parts = ["/requests/from/1", "/requests/from/5"]
-        due += searches[:1] + parts if older else searches
+        due += [f"/requests/with/{name}" for name in sorted(names)]
     found = [path for path in between.asked("/requests/") if not path.endswith("/return")]
     expect(found, due, "what was asked for")
 

@@ -13,8 +13,9 @@ from checks.support.tools import ROOT
 
 PACKAGE = ROOT / "python" / "kovelamiru"
 MODULES = sorted(PACKAGE.rglob("*.py"))
-OTHERS = [*(ROOT / "client").glob("*.py"), *(ROOT / "packaging").glob("*.py"), ROOT / "client" / "deskctl",
-          ROOT / "packaging" / "desk-publish", ROOT / "packaging" / "desk-standby"]
+OTHERS = [*(ROOT / "client").glob("*.py"), *(ROOT / "packaging").glob("*.py"),
+          ROOT / "client" / "deskctl", ROOT / "packaging" / "desk-publish",
+          ROOT / "packaging" / "desk-standby"]
 # The programs, none of which takes a module of another, and which no other module takes.
 PROGRAMS = ("deskctl", "publish", "standby")
 

@@ -2,11 +2,9 @@
 beside what was signed before; a file that is submitted twice."""
 from __future__ import annotations
 
-import re
-
 import pytest
 
-from checks.support.between import NO_ANSWER, OLDER, Between
+from checks.support.between import NO_ANSWER, Between
 from checks.support.deskctl import Office
 from checks.support.images import (
     PLAIN, authenticode, changed, sha256, signing, with_table, with_text
@@ -110,12 +108,9 @@ def test_a_file_that_was_submitted_before_is_asked_about(built: Office) -> None:
     assert "submitted before" not in ann.asked(line)[1]
 
 
-@pytest.mark.parametrize("older", [None, *OLDER])
 def test_only_requests_of_the_files_and_their_images_are_asked_for(
-    built: Office, between: Between, older: str | None
+    built: Office, between: Between
 ) -> None:
-    """At an older desk one's own are."""
-    between.older = OLDER.get(older or "")
     for title in ("shim", "grub"):
         built["ann"].does(f"submit vmlinuz-arm64 --title {title}")
     built["rita"].does("submit vmlinuz-amd64 --title other")
@@ -127,8 +122,7 @@ def test_only_requests_of_the_files_and_their_images_are_asked_for(
     arm = image("arm64")
     names = {sha256(odd), authenticode(odd), signing(odd), sha256(arm), authenticode(arm)}
     due = [f"/requests/with/{name}" for name in sorted(names)]
-    parts = ["/requests/from/1", "/requests/from/3"]
-    expect(between.asked("/requests"), due[:1] + parts if older else due, "what was asked for")
+    expect(between.asked("/requests"), due, "what was asked for")
 
 
 def test_an_image_that_was_submitted_in_another_file_is_asked_about(built: Office) -> None:

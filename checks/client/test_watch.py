@@ -9,8 +9,6 @@ import subprocess
 import threading
 from pathlib import Path
 
-import pytest
-
 from checks.support.between import Between, answer
 from checks.support.deskctl import Office, Person
 from checks.support.images import digest
@@ -26,13 +24,8 @@ def told(person: Person, words: str = "") -> list[str]:
     return person.does(f"watch --once {words}").splitlines()
 
 
-@pytest.mark.parametrize("older", [False, True])
-def test_each_role_is_told_once_what_waits_for_it(
-    office: Office, between: Between, older: bool
-) -> None:
+def test_each_role_is_told_once_what_waits_for_it(office: Office, between: Between) -> None:
     people = office.people_at(between.url)
-    if older:
-        between.shows["/waiting"] = between.shows["/changes"] = refused(53)
 
     def tells(name: str, *lines: str) -> None:
         expect(told(people[name]), [*lines], f"what {name} is told")
@@ -176,12 +169,12 @@ def test_it_goes_on_through_a_desk_that_doesnt_answer(office: Office, between: B
         fail(f"{line!r} {said + err!r}")
 
 
-def test_wrong_words_and_an_older_desk_are_told(office: Office, between: Between) -> None:
+def test_wrong_words_and_a_desk_without_a_route_are_told(office: Office, between: Between) -> None:
     ann = office["ann"].at(between.url)
     ann.ends(2, "watch --every soon", "no number of seconds")
     ann.ends(2, "watch --exec", "expected one argument")
     between.shows["/me"] = refused(53)
-    ann.ends(1, "watch --once", "doesn't say who calls", "older than deskctl")
+    ann.ends(1, "watch --once", "refused 53 NoRoute", "older than deskctl")
 
 
 def test_the_timers_unit_sends_mail(office: Office) -> None:

@@ -49,20 +49,18 @@ const has = ({ file, digest, signing, returned, carried }, hex) => (
 
 let asked;
 let requests;
-let isOld;
 
 beforeEach(() => {
-    [asked, requests, isOld] = [[], desk.requests, false];
+    [asked, requests] = [[], desk.requests];
     setToken('');
     changed();
     globalThis.fetch = async (path) => {
         if (path.startsWith('/requests')) asked.push(path);
         const [, hex] = /^\/requests\/with\/([0-9a-f]{64})$/.exec(path) ?? [];
-        const isRefused = isOld && hex !== undefined;
         const rows = hex ? requests.filter((one) => has(one, hex)) : requests;
         return {
-            status: isRefused ? 404 : 200,
-            text: async () => (isRefused ? '{"name":"NoRoute","refused":53}' : String(HOLDS[path])),
+            status: 200,
+            text: async () => String(HOLDS[path]),
             json: async () => rows,
             arrayBuffer: async () => new Uint8Array(HOLDS[path]).buffer,
         };
@@ -81,15 +79,12 @@ function doubtsOf({ digests, certificates, components }, all) {
 
 for (const { name, asks, ...one } of cases) {
     const named = { digests: [], certificates: [], components: [], ...one };
-    for (const old of [false, true]) {
-        test(`${name}${old ? ', at an older desk' : ''}: the doubts are the list’s`, async () => {
-            isOld = old;
-            const found = doubtsOf(named, await known(named));
-            const now = await standing();
-            assert.deepEqual(found, doubtsOf(named, knownOf(desk.requests, now.value)));
-            assert.equal(found.length, asks.filter((ask) => ask !== 'date').length);
-        });
-    }
+    test(`${name}: the doubts are the list’s`, async () => {
+        const found = doubtsOf(named, await known(named));
+        const now = await standing();
+        assert.deepEqual(found, doubtsOf(named, knownOf(desk.requests, now.value)));
+        assert.equal(found.length, asks.filter((ask) => ask !== 'date').length);
+    });
     test(`${name}: the list is read for a name that the level doesn’t have alone`, async () => {
         await known(named);
         const digests = [...named.digests, ...named.certificates];
@@ -126,8 +121,6 @@ for (const { name, request, facts, like } of compares) {
         const found = await requestOf(facts);
         assert.equal(found.value?.number, like === 'other' ? undefined : 2);
         assert.ok(asked.length > 0 && asked.every((path) => path.startsWith('/requests/with/')));
-        isOld = true;
-        assert.deepEqual(await requestOf(facts), found);
     });
 }
 

@@ -1,5 +1,5 @@
-// The lists in parts, and the requests with one of a few digests: what is asked for, what comes of
-// it, and what an older desk is asked for.
+// The lists in parts, and the requests with one of a few digests: what is asked for, and what comes
+// of it.
 import assert from 'node:assert/strict';
 import { test } from 'node:test';
 
@@ -17,8 +17,6 @@ const one = (number) => ({ number, file: digest(number % 10), digest: digest((nu
 
 const WITH = /^\/requests\/with\/([0-9a-f]{64})$/;
 const FROM = /^\/requests\/from\/([0-9]+)$/;
-const NO_ROUTE = [404, JSON.stringify({ name: 'NoRoute', refused: 53 })];
-const SITES_OWN = [404, '<html><title>404 Not Found</title></html>'];
 const FORBIDDEN = [403, JSON.stringify({ name: 'Forbidden', refused: 53 })];
 
 // A desk with so many requests, which refuses what `refuses` has an answer for.
@@ -38,7 +36,7 @@ function desk(count, refuses = () => null, make = one) {
             ? all.filter((row) => row.file === hex || row.digest === hex)
             : all.filter(({ number }) => number >= from);
         const [status, text] = refuses(path) ?? [200, ''];
-        const json = async () => (path === '/requests' ? rows : rows.slice(0, 1000));
+        const json = async () => rows.slice(0, 1000);
         return { status, json, text: async () => text };
     };
     return all;
@@ -55,12 +53,6 @@ for (const [count, parts] of [[0, 1], [999, 1], [1000, 2], [2500, 3]]) {
         if (parts > 1) assert.equal(asked[1], '/requests/from/3000');
     });
 }
-
-test('an older desk gives the whole list', async () => {
-    const all = desk(2500, (path) => (FROM.test(path) ? NO_ROUTE : null));
-    assert.deepEqual(await listed('requests'), { kind: 'value', value: all });
-    assert.deepEqual(asked, ['/requests/from/1', '/requests']);
-});
 
 test('a list of which a part doesn’t come is none', async () => {
     desk(2500, (path) => (FROM.exec(path)?.[1] > 2000 ? FORBIDDEN : null));
@@ -107,14 +99,6 @@ test('where more requests may have a digest than one answer tells, the list is r
         assert.equal(asked.filter((path) => FROM.test(path)).length, reads);
     }
 });
-
-for (const [who, answer] of [['desk', NO_ROUTE], ['site before the desk', SITES_OWN]]) {
-    test(`where the ${who} is older, the list is read`, async () => {
-        const all = desk(7, (path) => (WITH.test(path) ? answer : null));
-        assert.deepEqual(await requestsWith(digests(2)), { kind: 'value', value: all });
-        assert.deepEqual(asked, [...paths(digests(2)), '/requests/from/1']);
-    });
-}
 
 test('where one answer doesn’t come, there are none', async () => {
     desk(7, (path) => (path.endsWith('5') ? FORBIDDEN : null));

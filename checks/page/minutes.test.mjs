@@ -108,12 +108,6 @@ test('reasons are read from the proposal’s own call on, the newest lines first
     assert.deepEqual(asked, parts);
 });
 
-test('a desk that is older than reasons has none', async () => {
-    const none = JSON.stringify({ name: 'NoRoute', refused: 53 });
-    globalThis.fetch = async () => ({ status: 404, text: async () => none });
-    assert.deepEqual(await reasonsOf(1), { kind: 'value', value: [] });
-});
-
 // ---- the minutes are read on from where they ended, the newest first
 
 test('minutes are read on, and anew from a desk that was restored', async () => {

@@ -21,8 +21,6 @@ class Relay(socketserver.ThreadingTCPServer):
         self.desk_port = self.other_port = desk_port
         # What it answers a reader itself, by the path.
         self.shows: Callable[[str], bytes | None] = lambda path: None
-        # How paths begin that the desk doesn't know, as an older one.
-        self.unknown: tuple[str, ...] = ()
         # Whose token is sent where a request has none, as a site does that knows certificates.
         self.token = ""
         # What is done to the next commands, in turn; all others pass.
@@ -49,8 +47,6 @@ class Handler(BaseHTTPRequestHandler):
 
     def do_GET(self) -> None:
         shown = self.server.shows(self.path)
-        if self.path.startswith(self.server.unknown):
-            self.path = "/unknown"
         return self.passes() if shown is None else self.gives(200, [], shown)
 
     def do_POST(self) -> None:

@@ -110,13 +110,9 @@ def test_a_generation_or_a_stamp_that_is_far_off_is_asked_about(
 
 
 @pytest.mark.long(20)
-@pytest.mark.parametrize("of_desk", ("this desk", "an older one"))
 def test_a_slip_that_was_proposed_without_the_page_is_told_before_a_confirm(
-    browser: Browser, site: Site, of_desk: str
+    browser: Browser, site: Site
 ) -> None:
-    """An older desk gives the list of requests for that."""
-    is_old = of_desk == "an older one"
-    site.relay.unknown = ("/requests/with/",) if is_old else ()
     number = site.submits(signed(unsigned(105)), "whose digests are mixed up")
     facts = site.shows("olga", f"/requests/{number}") | {"carried": SIGNER["tbs"]}
     browser.sign_in(token("olga"))
@@ -129,8 +125,7 @@ def test_a_slip_that_was_proposed_without_the_page_is_told_before_a_confirm(
             browser.asks(f"Confirm proposal {at} for good?", told)
             browser.press("Leave it open")
             browser.asks_no_more()
-        lists = {"/requests/from/1"} if is_old else set()
-        expect(set(paths), with_each([facts[fact]]) | lists, "what is read of requests")
+        expect(set(paths), with_each([facts[fact]]), "what is read of requests")
 
 
 def test_a_yes_on_a_barred_image_and_after_another_file_is_asked_about(

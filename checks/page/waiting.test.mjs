@@ -66,38 +66,6 @@ test('two looks at once are one, and one behind a command begins behind it', asy
     assert.deepEqual(asked, ['/changes', '/changes']);
 });
 
-const LISTS = [
-    request(1, 'ann'), request(2, 'me'), request(3, 'ann', 'open', [vote('me')]),
-    request(4, 'ann', 'open', [vote('raul')]), request(5, 'me', 'approved'),
-    request(6, 'ann', 'approved'), request(7, 'me', 'signed'), request(8, 'ann', 'rejected'),
-];
-const OLD = [
-    ['reviewer', [1, 4], [], [2, 5]],
-    ['submitter', [], [], [2, 5]],
-    ['signer', [5, 6], [], []],
-    ['officer', [], [2], []],
-];
-
-for (const [role, requests, proposals, under] of OLD) {
-    test(`of an older desk's lists a ${role} has what waits`, async () => {
-        is(role);
-        const mine = role === 'submitter' ? LISTS.filter(({ submitter }) => submitter === 'me') : LISTS;
-        desk = {
-            '/requests': mine,
-            '/proposals': [proposal(1, 'me'), proposal(2, 'otto'), proposal(3, 'otto', 'dropped')],
-        };
-        await look();
-        const all = inbox();
-        assert.deepEqual(numbers(all.requests), requests);
-        assert.deepEqual(numbers(all.proposals), proposals);
-        assert.deepEqual(numbers(all.under), under);
-        assert.equal(count(), requests.length + proposals.length);
-        await look();
-        const list = role === 'officer' ? '/proposals' : '/requests';
-        assert.deepEqual(asked, ['/changes', list, list]);
-    });
-}
-
 // A desk of three requests of one's own, of which two changed.
 async function changes() {
     is('submitter');

@@ -10,7 +10,7 @@ from pathlib import Path
 from typing import Callable
 
 from checks.support.certificates import authority, issued, self_signed
-from checks.support.messages import refused, said
+from checks.support.messages import said
 from checks.support.says import note
 
 Ask = Callable[[bytes], bytes]
@@ -45,8 +45,6 @@ def instead(status: int, body: bytes = BUSY, kind: str = HTML, acts: bool = Fals
 
 
 NO_ANSWER = kept(lambda found: b"")
-# What is said at the path of a route by a desk that is older than it, and by a proxy.
-OLDER = {"an older desk": refused(53), "an older proxy": answer(404, BUSY, HTML)}
 
 
 def received(peer: socket.socket) -> bytes:
@@ -66,15 +64,14 @@ def received(peer: socket.socket) -> bytes:
 
 class Between:
     """`loses` says what becomes of the next requests that carry a key; then all pass. `shows` has
-    paths that the proxy answers itself, `history` the minutes that it shows, `older` what it says
-    to a search by a digest, if that is new. What passed is kept in `seen`, without bodies."""
+    paths that the proxy answers itself, `history` the minutes that it shows. What passed is kept in
+    `seen`, without bodies."""
 
     def __init__(self, port: int) -> None:
         self.desk = port
         self.loses: list[Rule] = []
         self.shows: dict[str, bytes] = {}
         self.history: list[bytes] | None = None
-        self.older: bytes | None = None
         self.seen: list[bytes] = []
         self.socket = socket.create_server(("127.0.0.1", 0), backlog=50)
         self.url = f"http://127.0.0.1:{self.socket.getsockname()[1]}"
@@ -116,8 +113,6 @@ class Between:
             return answer(200, b"".join(self.history[first : first + 1000]), "text/plain")
         if path in self.shows and head.startswith(b"GET"):
             return self.shows[path]
-        if path.startswith("/requests/with/") and self.older is not None:
-            return self.older
         return rule(request, self.ask) if rule else self.ask(request)
 
     def asked(self, begin: str) -> list[str]:

@@ -72,7 +72,7 @@ export const waitsForVote = ({ state, submitter, votes }) => (
 
 /**
  * Of each name among these the request that was signed last, as far as the parts of the list have
- * it that come before; none at a desk without parts.
+ * it that come before.
  * @param {Pick<Request, 'number' | 'title'>[]} some
  * @returns {Promise<import('./types.js').Answer<Map<string, Request>>>}
  */
@@ -84,7 +84,6 @@ export async function lastSigned(some) {
     const end = Math.max(...some.map(({ number }) => number));
     for (let first = end - PART + 1; first > end - LOOKED_THROUGH; first -= PART) {
         const answer = await get(`/requests/from/${Math.max(first, 1)}`);
-        if (answer.kind === 'refused' && answer.name === 'NoRoute') break;
         if (answer.kind !== 'value') return answer;
         for (const one of answer.value.reverse()) {
             const name = nameOf(one.title);

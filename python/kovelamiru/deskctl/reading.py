@@ -9,7 +9,7 @@ import secrets
 import stat
 import sys
 
-from ..answers import caller_of
+from ..answers import me_of
 from ..faults import REFUSED, Stop, reason, wrong
 from ..files import fresh, write_all
 from ..http import BYTES, TEXT, not_a_desk
@@ -19,7 +19,7 @@ from .run import Run
 
 
 def people(run: Run) -> None:
-    answer = run.desk.get_new("/people", "list of people")
+    answer = run.desk.get("/people")
     found = answer.json()
     if not isinstance(found, list) or not all(isinstance(one, dict) for one in found):
         raise not_a_desk(answer)
@@ -31,7 +31,7 @@ def people(run: Run) -> None:
 
 
 def me(run: Run) -> None:
-    found = caller_of(run.desk)
+    found = me_of(run.desk)
     if run.words.json:
         run.print_json({"name": found.name, "role": found.role})
         return

@@ -87,7 +87,7 @@ def request(run: Run) -> None:
     one, me = shaped(Request, value), me_of(run.desk)
     rows: list[tuple[str, object]] = [
         ("number", one.number), ("state", f"{one.state} ({NEXT.get(one.state, '')})"),
-        ("submitter", one.submitter + (" (you)" if me and me.name == one.submitter else "")),
+        ("submitter", one.submitter + (" (you)" if me.name == one.submitter else "")),
         ("title", one.title), ("length", one.length), ("file", one.file), ("digest", one.digest),
         ("signing", one.signing)]
     rows += [("gap", gap_words(one.gap))] if one.gap else []
