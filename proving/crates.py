@@ -8,6 +8,9 @@ import os
 ROOT = os.path.dirname(os.path.dirname(os.path.realpath(__file__)))
 # The crates that each crate lists.
 Graph = dict[str, list[str]]
+# A check loads the libraries below in the time in which it proves this part of their lines; a
+# program is then built in the time of so many lines.
+LOADING, BUILDING = 0.08, 10_000
 
 
 def folder_of(crate: str) -> str:
@@ -36,6 +39,10 @@ def crates_below(name: str) -> Graph:
     return found
 
 
+def all_below(crate: str) -> list[str]:
+    return [*crates_below(crate)][:-1]
+
+
 def is_program(crate: str) -> bool:
     return os.path.exists(f"{folder_of(crate)}/src/main.rt")
 
@@ -57,3 +64,16 @@ def sum_of_files(crate: str) -> str:
                 part = hashlib.sha256(text.read()).hexdigest()
             found.update(f"{file.removeprefix(ROOT)} {part}\n".encode())
     return found.hexdigest()
+
+
+def works_of(crates: Graph) -> dict[str, float]:
+    """The work of each crate, in lines."""
+    lines = dict.fromkeys(crates, 0)
+    for crate in crates:
+        for file in files_of(crate):
+            with open(file, "rb") as text:
+                lines[crate] += text.read().count(b"\n")
+    return {
+        crate: own + LOADING * sum(lines[name] for name in all_below(crate))
+        + BUILDING * is_program(crate) for crate, own in lines.items()
+    }

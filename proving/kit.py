@@ -41,13 +41,17 @@ def differs() -> str:
     return f"this machine's kit is {version()}; the gate has passed with {', '.join(passed)}\n"
 
 
+def free_memory() -> int:
+    """In bytes."""
+    with open("/proc/meminfo", encoding="ascii") as text:
+        found = re.search(r"MemAvailable:\s+(\d+)", text.read())
+    return 1024 * int(found[1]) if found else 0
+
+
 def lanes() -> int:
     """How many checks may run side by side, with 5 GB each. By itself rt counts 5 to 9 GB for a
     check, which takes 1 to 7, and would leave processors idle."""
-    with open("/proc/meminfo", encoding="ascii") as text:
-        found = re.search(r"MemAvailable:\s+(\d+)", text.read())
-    fit = int(found[1]) // 5_000_000 if found else 1
-    return max(1, min(fit, len(os.sched_getaffinity(0))))
+    return max(1, min(free_memory() // 5_120_000_000, len(os.sched_getaffinity(0))))
 
 
 def loaded() -> Any:
