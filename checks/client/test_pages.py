@@ -9,6 +9,7 @@ from pathlib import Path
 
 import pytest
 
+from checks.support.deskctl import DESKCTL
 from checks.support.says import expect
 from checks.support.tools import ROOT, ran
 
@@ -69,9 +70,9 @@ COMPLETED = [
 
 @pytest.mark.parametrize("typed, due", COMPLETED, ids=[row[0] for row in COMPLETED])
 def test_bash_completes(typed: str, due: list[str], pages: Path) -> None:
-    text = ('. "$0" && COMP_WORDS=(deskctl "$@") COMP_CWORD=$# && _deskctl'
+    text = ('. "$0" && COMP_WORDS=("$@") COMP_CWORD=$(($# - 1)) && _deskctl'
             ' && printf "%s\\n" "${COMPREPLY[@]}"')
-    found = ran("bash", "-c", text, pages / "deskctl.bash", *typed.split(" "))
+    found = ran("bash", "-c", text, pages / "deskctl.bash", DESKCTL, *typed.split(" "))
     expect(found.decode().split(), due, "the completions")
 
 
@@ -79,5 +80,6 @@ def test_zsh_and_fish_read_their_completions_where_they_are_installed(pages: Pat
     if shutil.which("zsh"):
         ran("zsh", "-n", pages / "_deskctl")
     if shutil.which("fish"):
-        found = ran("fish", "-c", f"source {pages}/deskctl.fish; complete -C 'deskctl get d'")
+        text = f"set PATH {DESKCTL.parent} $PATH; source {pages}/deskctl.fish"
+        found = ran("fish", "-c", f"{text}; complete -C 'deskctl get d'")
         expect([line.split("\t")[0] for line in found.decode().splitlines()], ["db", "dbx"], "d")
