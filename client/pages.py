@@ -1,14 +1,13 @@
 #!/usr/bin/env python3
 """pages.py FOLDER: writes deskctl.1 and the completions deskctl.bash, _deskctl and deskctl.fish.
 
-Commands, options and exit statuses come from deskctl itself, so that help, page and completions
-can't differ. This file has the page's other sections, set in man(7). The date is that of
+Commands, options and exit statuses come from deskctl itself, so that help and page can't differ;
+the completions ask it. This file has the page's other sections, set in man(7). The date is that of
 SOURCE_DATE_EPOCH, or today.
 """
 from __future__ import annotations
 
 import os
-import re
 import sys
 import time
 from typing import Any, Sequence
@@ -112,9 +111,7 @@ others go on, with status 1. Votes go out in turn, none behind one that is refus
 looked at isn't what is there: deskctl says which ones are in, and with which numbers to go on.
 Where no answer comes the others aren't sent: the same command goes on.
 
-Without a terminal deskctl sends nothing where it would ask, unless `--yes` is given. A desk that
-is older than deskctl doesn't show what a proposal names: then `confirm` says so, and asks for the
-count of its entries."""
+Without a terminal deskctl sends nothing where it would ask, unless `--yes` is given."""
 IMPORTS = """\
 The kind of a file is found by its bytes. Signature lists may stand behind
 EFI_VARIABLE_AUTHENTICATION_2, as sign-efi-sig-list and sbvarsign write it (its lengths and GUIDs
@@ -131,7 +128,7 @@ whenever it signed. `--dry-run` says all of this and sends nothing; it needs a d
 what is new."""
 IMAGES = """\
 `facts`, `compare`, `revoke` and `list-digest` take what an image is from the desk (POST /facts), or
-from the program desk: where `--program` names one, where no desk is named, and at an older desk.
+from the program desk: where `--program` names one, and where no desk is named.
 `compare` says of a file that it is the one of a request, or the same image with another signature
 table (`digest` or `signing` is equal), or another image, and what differs. `facts` and `compare`
 say what dbx, the level and db say of it today.
@@ -225,163 +222,46 @@ def deskctl_page() -> str:
 # ---- completions
 
 
-def kind_of(more: dict[str, Any]) -> str:
-    """What completes a word: its choices, files, or nothing."""
-    if "choices" in more:
-        return " ".join(more["choices"])
-    if "action" in more and more["action"].startswith("store_"):
-        return "-"
-    return "FILES" if any(name in more.get("metavar", "") for name in ("FILE", "IMAGE")) else ""
-
-
-def is_many(more: dict[str, Any]) -> bool:
-    return more.get("nargs") in ("+", "*")
-
-
-def split(words: Sequence[Any]) -> tuple[list[Any], list[Any]]:
-    """The options among words, and those that are named by their place."""
-    options = [word for word in words if word[0][0].startswith("-")]
-    return options, [word for word in words if word not in options]
-
-
-def bash() -> str:
-    names = " ".join(one.name for one in COMMANDS)
-    general = " ".join(name for options, _ in OPTIONS for name in options)
-    rows: list[str] = []
-    for one in COMMANDS:
-        options, places = split(one.words)
-        kinds = " ".join(f"'{kind_of(more)}'" for _, more in places) or "''"
-        its = " ".join(name for named_, _ in options for name in named_)
-        many = "yes" if any(is_many(more) for _, more in places) else ""
-        chosen = " ".join(f"['{named_[0]}']='{kind_of(more)}'" for named_, more in options
-                          if "choices" in more)
-        rows.append(f"        {one.name}) options='{its}' places=({kinds}) many={many}"
-                    f" values=({chosen}) ;;")
-    values = {}
-    for names_, more in list(OPTIONS) + [it for one in COMMANDS for it in split(one.words)[0]]:
-        if kind_of(more) != "-":
-            for name in names_:
-                values.setdefault(name, kind_of(more))
-    of_kind = {kind: "|".join(it for it, its in values.items() if its == kind)
-               for kind in ("FILES", "")}
-    choices = "|".join(it for it, kind in values.items() if kind not in ("FILES", ""))
-    return BASH.format(names=names, general=general, rows="\n".join(rows), files=of_kind["FILES"],
-                       texts=of_kind[""], choices=choices)
-
-
 BASH = """\
-# Completions of deskctl(1) for bash, written by client/pages.py.
-_deskctl() {{
-    local word=${{COMP_WORDS[COMP_CWORD]}} before=${{COMP_WORDS[COMP_CWORD - 1]}}
-    local command='' options='' many='' at=0 skip='' one kind
-    local -a places=()
-    local -A values=()
-    COMPREPLY=()
-    for one in "${{COMP_WORDS[@]:1:COMP_CWORD - 1}}"; do
-        if [ -n "$skip" ]; then skip=''; continue; fi
-        case $one in
-            {files}|{texts}|{choices}) skip=yes ;;
-            -*) ;;
-            *) if [ -z "$command" ]; then command=$one; else at=$((at + 1)); fi ;;
-        esac
-    done
-    case $command in
-{rows}
-    esac
-    kind=''
-    case $before in
-        {files}) kind=FILES ;;
-        {texts}) return 0 ;;
-        {choices}) kind=${{values[$before]-}} ;;
-        *)
-            if [[ $word == -* ]]; then kind="$options {general} --help"
-            elif [ -z "$command" ]; then kind='{names} help'
-            elif [ -n "$many" ] && [ "$at" -gt 0 ]; then kind=${{places[*]}}
-            else kind=${{places[at]-}}
-            fi
-            ;;
-    esac
-    if [ "$kind" = FILES ]; then
+# Completions of deskctl(1) for bash.
+_deskctl() {
+    local word=${COMP_WORDS[COMP_CWORD]}
+    mapfile -t COMPREPLY < <("${COMP_WORDS[0]}" complete "${COMP_WORDS[@]:1:COMP_CWORD}" \\
+        2> /dev/null | cut -f1)
+    if [ "${COMPREPLY[0]-}" = FILES ]; then
         compopt -o filenames 2> /dev/null
         mapfile -t COMPREPLY < <(compgen -f -- "$word")
-    else
-        mapfile -t COMPREPLY < <(compgen -W "$kind" -- "$word")
     fi
-}}
+}
 complete -F _deskctl deskctl
+"""
+ZSH = """\
+#compdef deskctl
+# Completions of deskctl(1) for zsh.
+local -a found
+found=("${(@f)$($words[1] complete "${(@)words[2,CURRENT]}" 2> /dev/null)}")
+if [[ $found[1] == FILES ]]; then _files; return; fi
+found=("${(@)found//:/\\\\:}")
+found=("${(@)found/$'\\t'/:}")
+_describe deskctl found
+"""
+FISH = """\
+# Completions of deskctl(1) for fish.
+function __deskctl
+    set -l found (deskctl complete (commandline -opc)[2..-1] (commandline -ct) 2> /dev/null)
+    if test "$found[1]" = FILES
+        __fish_complete_path (commandline -ct)
+    else
+        printf '%s\\n' $found
+    end
+end
+complete -c deskctl -f -a '(__deskctl)'
 """
 
 
-def quoted(text: str) -> str:
-    return text.replace("'", "'\\''")
-
-
-def zsh_word(names: Sequence[str], more: dict[str, Any], place: int) -> str:
-    """A word for zsh's _arguments."""
-    does = quoted(re.sub(r"([\[\]:])", r"\\\1", more["help"]))
-    kind = kind_of(more)
-    action = "_files" if kind == "FILES" else f"({kind})" if kind not in ("", "-") else " "
-    meta = more.get("metavar", "value").replace(":", "")
-    if not names[0].startswith("-"):
-        return f"'{'*' if is_many(more) else place}:{meta}:{action}'"
-    value = "" if kind == "-" else f":{meta}:{action}"
-    times = "*" if more.get("action") == "append" else ""
-    return " ".join(f"'{times}{name}[{does}]{value}'" for name in names)
-
-
-def zsh() -> str:
-    lines = ["#compdef deskctl", "# Completions of deskctl(1) for zsh, written by client/pages.py."]
-    lines += ["local context state line", "local -a commands options", "commands=("]
-    lines += [f"    '{one.name}:{quoted(one.does)}'" for one in COMMANDS] + [")", "options=("]
-    lines += [f"    {zsh_word(names, more, 0)}"
-              for names, more in OPTIONS] + ["    '--help[show help]'", ")"]
-    lines += [
-        "_arguments -C $options '1:command:->command' '*::word:->word' && return", "case $state in"]
-    lines += [
-        "    command) _describe command commands ;;", "    word)", "        case $words[1] in"]
-    for one in COMMANDS:
-        options, places = split(one.words)
-        words = [zsh_word(names, more, 0) for names, more in options] + [
-            zsh_word(names, more, at) for at, (names, more) in enumerate(places, 1)]
-        lines.append(f"            {one.name}) _arguments $options {' '.join(words)} ;;")
-    return "\n".join(lines + ["        esac", "        ;;", "esac"]) + "\n"
-
-
-def fish() -> str:
-    lines = [
-        "# Completions of deskctl(1) for fish, written by client/pages.py.",
-        "complete -c deskctl -f"]
-    for one in COMMANDS:
-        lines.append(
-            f"complete -c deskctl -n __fish_use_subcommand -a {one.name} -d '{fish_text(one.does)}'"
-        )
-        options, places = split(one.words)
-        lines += [fish_option(names, more, one.name) for names, more in options]
-        for kind in dict.fromkeys(kind_of(more) for _, more in places):
-            if kind == "FILES":
-                lines.append(f"complete -c deskctl -n '__fish_seen_subcommand_from {one.name}' -F")
-            elif kind:
-                lines.append(
-                    f"complete -c deskctl -n '__fish_seen_subcommand_from {one.name}' -a '{kind}'")
-    return "\n".join(lines + [fish_option(names, more, "") for names, more in OPTIONS]) + "\n"
-
-
-def fish_text(text: str) -> str:
-    return text.replace("\\", "\\\\").replace("'", "\\'")
-
-
-def fish_option(names: Sequence[str], more: dict[str, Any], command: str) -> str:
-    where = f" -n '__fish_seen_subcommand_from {command}'" if command else ""
-    kind = kind_of(more)
-    value = {"-": "", "": " -x", "FILES": " -r -F"}.get(kind, f" -x -a '{kind}'")
-    shown = " ".join(f"-l {name[2:]}" if name.startswith("--") else f"-s {name[1:]}"
-                     for name in names)
-    return f"complete -c deskctl{where} {shown}{value} -d '{fish_text(more['help'])}'"
-
-
 def main() -> None:
-    for name, text in (("deskctl.1", deskctl_page()), ("deskctl.bash", bash()), ("_deskctl", zsh()),
-                       ("deskctl.fish", fish())):
+    for name, text in (("deskctl.1", deskctl_page()), ("deskctl.bash", BASH), ("_deskctl", ZSH),
+                       ("deskctl.fish", FISH)):
         with open(os.path.join(sys.argv[1], name), "w", encoding="utf-8") as out:
             out.write(text)
 

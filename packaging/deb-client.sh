@@ -1,8 +1,7 @@
 #!/bin/sh
 # Makes the package kovelamiru-deskctl_VERSION_all.deb of client/ and python/, in the working folder
-# or the named one, and prints its path: deb-client.sh [OUT]. deskctl is one file there, which
-# client/one_file.py makes of its modules; the page and the completions are those of
-# client/pages.py. Its version must be the newest in CHANGELOG.md. The same tree and
+# or the named one, and prints its path: deb-client.sh [OUT]. The page and the completions are those
+# of client/pages.py. Its version must be the newest in CHANGELOG.md. The same tree and
 # SOURCE_DATE_EPOCH (by default the commit's date) give the same bytes. It needs dpkg-deb, git, gzip
 # and python3.
 set -eu
@@ -18,8 +17,12 @@ versioned deskctl "$(sed -n 's/^VERSION = "\(.*\)"$/\1/p' "$root/python/kovelami
 
 # ---- the files
 
-python3 -B "$root/client/one_file.py" "$room/one"
-place 755 "$room/one" usr/bin/deskctl
+# (but for what other programs alone take)
+launched "$root/client/deskctl" ! -path '*/publish/*' ! -name checkpoints.py ! -name fetch.py \
+    ! -name programs.py ! -name reader.py ! -name standby.py ! -name shim.py
+for file in "$root"/page/wire/*.json; do
+    place 644 "$file" "usr/lib/$name/kovelamiru/wire/${file##*/}"
+done
 python3 "$root/client/pages.py" "$room"
 packed "$room/deskctl.1"
 place 644 "$room/deskctl.1.gz" usr/share/man/man1/deskctl.1.gz
@@ -34,11 +37,8 @@ for unit in service timer; do
 done
 
 documented < /dev/null
-{
-    printf 'Commit %s. SHA-256 of /usr/bin/deskctl: %s.\n\n' "$commit" \
-        "$(sha256sum < "$room/one" | cut -d' ' -f1)"
-    printf 'deskctl is not proved. README.md and deskctl(1) say how to use it.\n'
-} > "$room/README.Debian"
+printf 'Commit %s.\n\ndeskctl is not proved. README.md and deskctl(1) say how to use it.\n' \
+    "$commit" > "$room/README.Debian"
 place 644 "$room/README.Debian" "usr/share/doc/$name/README.Debian"
 
 # ---- the package

@@ -24,6 +24,18 @@ versioned() {
 }
 # place MODE FROM TO: a file of the package.
 place() { install -D -m "$1" "$2" "$tree/$3"; }
+# launched TOOL WORD..: the launcher, and the modules of python/ that find takes by these words, which
+# it finds by the path of the link.
+launched() {
+    place 755 "$1" "usr/lib/$name/${1##*/}"
+    mkdir -p "$tree/usr/bin"
+    ln -s "../lib/$name/${1##*/}" "$tree/usr/bin/${1##*/}"
+    shift
+    (cd "$root/python" && find kovelamiru -name '*.py' "$@") > "$room/modules"
+    while read -r module; do
+        place 644 "$root/python/$module" "usr/lib/$name/$module"
+    done < "$room/modules"
+}
 # packed FILE: the same bytes each time.
 packed() { gzip -9n "$1"; }
 # documented: the changes, and the copyright according to the repository: a licence, or that there is

@@ -56,16 +56,10 @@ for page in AUDIT INTEROPERATION TOOLS WALKTHROUGH; do
     sed -f "$here/links.sed" "$root/docs/$page.md" > "$room/$page.md"
     place 644 "$room/$page.md" "usr/share/doc/$name/$page.md"
 done
-# The programs in Python and their package; each finds it by the path of the link.
-(cd "$root/python" && find kovelamiru -name '*.py' ! -path '*/deskctl/*') > "$room/modules"
-while read -r module; do
-    place 644 "$root/python/$module" "usr/lib/$name/$module"
-done < "$room/modules"
-ln -s "../../../share/$name/page/wire" "$tree/usr/lib/$name/kovelamiru/wire"
 for tool in desk-publish desk-standby kovelamiru-mirror; do
-    place 755 "$here/$tool" "usr/lib/$name/$tool"
-    ln -s "../lib/$name/$tool" "$tree/usr/bin/$tool"
+    launched "$here/$tool" ! -path '*/deskctl/*'
 done
+ln -s "../../../share/$name/page/wire" "$tree/usr/lib/$name/kovelamiru/wire"
 place 644 "$here/lintian-overrides" "usr/share/lintian/overrides/$name"
 # The page (its .json files are for editors, tsc and node), and the data that it reads.
 find "$root/page" -type f ! -name "*.json" ! -path "*/wire/*" -printf '%P\n' | while read -r file; do

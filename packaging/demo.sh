@@ -85,9 +85,9 @@ image 8 'shim,4,UEFI shim,shim,1,https://github.com/rhboot/shim' "shim.debian,1,
 image 9 'grub,2,Free Software Foundation,grub,2.06,https://www.gnu.org/software/grub/' "grub.debian,3,Debian,grub2,2.06-13,$debian/grub2"
 as olga /db/certificates "@$root/examples/certificate.der"
 submit ann 1 'shim 16.1-1 amd64'
-submit ann 2 'grub2 2.12-9 amd64'
+submit ann 2 'grub2 2.12-9 / amd64'
 submit ann 3 'fwupd-efi 1.7-1 amd64'
-submit ann 4 'grub2 2.12-9 arm64'
+submit ann 4 'grub2 2.12-9 / arm64'
 submit ann 5 'systemd-boot 257.9-1 amd64'
 submit ann 6 'linux 6.12.57-1 amd64, the kernel of the 13.3 point release'
 submit rita 7 'memtest86+ 7.20-1 amd64'

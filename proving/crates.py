@@ -6,10 +6,11 @@ import hashlib
 import os
 
 ROOT = os.path.dirname(os.path.dirname(os.path.realpath(__file__)))
-# The folders of a crate that have its sources.
-PARTS = ("src", "specs", "proofs")
 # The crates that each crate lists.
 Graph = dict[str, list[str]]
+# A check loads the libraries below in the time in which it proves this part of their lines; a
+# program is then built in the time of so many lines.
+LOADING, BUILDING = 0.08, 10_000
 
 
 def folder_of(crate: str) -> str:
@@ -25,8 +26,7 @@ def listed() -> dict[str, str]:
 
 def crates_below(name: str) -> Graph:
     """The crate and those that it stands on, each after those that it lists: a map to those."""
-    lines = listed()
-    found: Graph = {}
+    lines, found = listed(), Graph()
 
     def add(crate: str) -> None:
         if crate in lines and crate not in found:
@@ -39,11 +39,8 @@ def crates_below(name: str) -> Graph:
     return found
 
 
-def all_below(crate: str, below: Graph) -> set[str]:
-    found: set[str] = set()
-    for library in below[crate]:
-        found |= {library} | all_below(library, below)
-    return found
+def all_below(crate: str) -> list[str]:
+    return [*crates_below(crate)][:-1]
 
 
 def is_program(crate: str) -> bool:
@@ -52,26 +49,13 @@ def is_program(crate: str) -> bool:
 
 def files_of(crate: str) -> list[str]:
     """The files of the crate's sources, in one order."""
-    return sorted(
-        f"{at}/{name}"
-        for part in PARTS
-        for at, _, names in os.walk(f"{folder_of(crate)}/{part}")
-        for name in names
-    )
-
-
-def lines_of(crate: str) -> int:
-    count = 0
-    for file in files_of(crate):
-        if file.endswith((".rt", ".antt")):
-            with open(file, "rb") as text:
-                count += text.read().count(b"\n")
-    return count
+    parts = [f"{folder_of(crate)}/{part}" for part in ("src", "specs", "proofs")]
+    walked = [(at, names) for part in parts for at, _, names in os.walk(part)]
+    return sorted(f"{at}/{name}" for at, names in walked for name in names)
 
 
 def sum_of_files(crate: str) -> str:
-    """The sum of the lines of crates.txt and of the files of the crate and of those below it.
-    Unlike the kit's own sum it is that of the sources alone, and takes no kit."""
+    """The sum of the lines of crates.txt and of the files of the crate and of those below it."""
     lines, found = listed(), hashlib.sha256()
     for name in sorted(crates_below(crate)):
         found.update(lines[name].encode())
@@ -80,3 +64,16 @@ def sum_of_files(crate: str) -> str:
                 part = hashlib.sha256(text.read()).hexdigest()
             found.update(f"{file.removeprefix(ROOT)} {part}\n".encode())
     return found.hexdigest()
+
+
+def works_of(crates: Graph) -> dict[str, float]:
+    """The work of each crate, in lines."""
+    lines = dict.fromkeys(crates, 0)
+    for crate in crates:
+        for file in files_of(crate):
+            with open(file, "rb") as text:
+                lines[crate] += text.read().count(b"\n")
+    return {
+        crate: own + LOADING * sum(lines[name] for name in all_below(crate))
+        + BUILDING * is_program(crate) for crate, own in lines.items()
+    }

@@ -13,13 +13,13 @@ from checks.support.steps import named, vote
 # What each sees once rita has agreed to ann's first request, and one of raul's own is open. The
 # image of the second one is barred.
 DUE: dict[str, list[str]] = {
-    "ann": ["yours request 1 linux 6.12 amd64|ann|1 of 2 yes, by rita|-",
-            "yours request 2 linux 6.12 arm64|ann|0 of 2 yes|barred",
+    "ann": ["yours request 1 linux 6.12 / amd64|ann|1 of 2 yes, by rita|-",
+            "yours request 2 linux 6.12 / arm64|ann|0 of 2 yes|barred",
             "yours request 4 shim|ann|approved|-"],
-    "rita": ["waits request 2 linux 6.12 arm64|ann|0 of 2 yes|barred",
+    "rita": ["waits request 2 linux 6.12 / arm64|ann|0 of 2 yes|barred",
              "waits request 3 mine|raul|0 of 2 yes|-"],
-    "raul": ["waits request 1 linux 6.12 amd64|ann|1 of 2 yes, by rita|-",
-             "waits request 2 linux 6.12 arm64|ann|0 of 2 yes|barred",
+    "raul": ["waits request 1 linux 6.12 / amd64|ann|1 of 2 yes, by rita|-",
+             "waits request 2 linux 6.12 / arm64|ann|0 of 2 yes|barred",
              "yours request 3 mine|raul|0 of 2 yes|-"],
     "sid": ["waits request 4 shim|ann|approved|-"],
     "olga": ["yours proposal 2 2 digests, 1 certificate|olga|-"],
@@ -28,7 +28,8 @@ DUE: dict[str, list[str]] = {
 
 
 POSTS: list[tuple[str, str, bytes, str]] = [
-    ("ann", "/requests", PLAIN, "linux 6.12 amd64"), ("ann", "/requests", ODD, "linux 6.12 arm64"),
+    ("ann", "/requests", PLAIN, "linux 6.12 / amd64"),
+    ("ann", "/requests", ODD, "linux 6.12 / arm64"),
     ("raul", "/requests", PLAIN, "mine"), ("ann", "/requests", PLAIN, "shim"),
     ("ann", "/requests", PLAIN, "gone"), ("ann", "/requests/5/withdraw", b"", ""),
     ("rita", "/requests/1/review", vote("yes"), ""),

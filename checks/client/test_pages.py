@@ -1,4 +1,4 @@
-"""Help, the manual page and the completions, and deskctl as one file."""
+"""Help, the manual page and the completions."""
 from __future__ import annotations
 
 import re
@@ -8,6 +8,7 @@ from pathlib import Path
 
 import pytest
 
+from checks.support.deskctl import DESKCTL
 from checks.support.says import expect
 from checks.support.tools import ROOT, ran
 
@@ -32,12 +33,9 @@ def helps(command: list[str], *words: str) -> str:
     return text
 
 
-def test_help_has_the_commands_in_one_file_too(command: list[str], tmp_path: Path) -> None:
-    text = helps(command)
-    found = re.findall(r"(?m)^  ([a-z-]*[a-z])  ", text)
+def test_help_has_the_commands(command: list[str]) -> None:
+    found = re.findall(r"(?m)^  ([a-z-]*[a-z])  ", helps(command))
     expect([name for name in found if not name.startswith("-")], COMMANDS, "the commands of help")
-    ran(sys.executable, "-B", ROOT / "client" / "one_file.py", tmp_path / "one")
-    expect(ran(tmp_path / "one", "--help").decode(), text, "the help of deskctl as one file")
 
 
 @pytest.mark.parametrize("name", COMMANDS)
@@ -71,7 +69,7 @@ COMPLETED = [
 
 @pytest.mark.parametrize("typed, due", COMPLETED, ids=[row[0] for row in COMPLETED])
 def test_bash_completes(typed: str, due: list[str], pages: Path) -> None:
-    text = ('. "$0" && COMP_WORDS=(deskctl "$@") COMP_CWORD=$# && _deskctl'
+    text = ('. "$0" && COMP_WORDS=("$@") COMP_CWORD=$(($# - 1)) && _deskctl'
             ' && printf "%s\\n" "${COMPREPLY[@]}"')
-    found = ran("bash", "-c", text, pages / "deskctl.bash", *typed.split(" "))
+    found = ran("bash", "-c", text, pages / "deskctl.bash", DESKCTL, *typed.split(" "))
     expect(found.decode().split(), due, "the completions")

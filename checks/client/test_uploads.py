@@ -2,8 +2,6 @@
 beside what was signed before; a file that is submitted twice."""
 from __future__ import annotations
 
-import re
-
 import pytest
 
 from checks.support.between import NO_ANSWER, Between
@@ -11,7 +9,7 @@ from checks.support.deskctl import Office
 from checks.support.images import PLAIN, changed, sha256, with_text
 from checks.support.says import expect
 from checks.support.wire import wire
-from kovelamiru.titles import apart_in, group_of, machine_names, name_of, titles_of
+from kovelamiru.titles import machine_names, name_of, titles_of, upload_of
 
 MACHINES = {"amd64": "6486", "arm64": "64aa", "i386": "4c01"}
 
@@ -40,10 +38,7 @@ def test_a_title_says_the_architecture_and_what_distinguishes_the_file(
     title: str, files: list[tuple[str, tuple[str, ...]]], due: list[str]
 ) -> None:
     found = titles_of(title, files)
-    expect(found, [f"{title} {one}" for one in due], "the titles")
-    if re.search(r" [0-9]", title):
-        expect([(group_of(one), apart_in(one)) for one in found], [(title, one) for one in due],
-               "the upload, what tells each apart")
+    expect([upload_of(one) for one in found], [(title, one) for one in due], "the titles")
 
 
 @pytest.mark.parametrize("title, group, apart, name", wire("cases/titles")["titles"])
@@ -51,11 +46,11 @@ def test_a_title_has_an_upload_what_tells_it_apart_there_and_a_name(
     title: str, group: str | None, apart: str | None, name: str
 ) -> None:
     due = (group, title if apart is None else apart, name)
-    expect((group_of(title), apart_in(title), name_of(title)), due, "upload, apart, name")
+    expect((*upload_of(title), name_of(title)), due, "upload, apart, name")
 
 
 FILES = "vmlinuz-amd64 vmlinuz-cloud-amd64 vmlinuz-arm64"
-TITLES = ["linux 6.12 amd64", "linux 6.12 amd64 cloud", "linux 6.12 arm64"]
+TITLES = ["linux 6.12 / amd64", "linux 6.12 / amd64 cloud", "linux 6.12 / arm64"]
 
 
 @pytest.fixture
@@ -75,7 +70,7 @@ def test_each_file_is_a_request(built: Office, between: Between) -> None:
     ann, line = built["ann"].at(between.url), f"submit {FILES} --title 'linux 6.12' --retries 0"
     between.loses = [lambda request, ask: ask(request), NO_ANSWER]
     ann.ends(3, line, "It stopped at vmlinuz-cloud-amd64; 1 more", "1 of 3 have their answer")
-    ann.does(line, "request 1 submitted: linux 6.12 amd64\nfile ", "request 3 submitted",
+    ann.does(line, "request 1 submitted: linux 6.12 / amd64\nfile ", "request 3 submitted",
              err=["taking up the keys"])
     expect(titles(built), TITLES, "the titles")
     expect((len(set(between.keys())), ann.pending()), (3, []), "keys, the journal")
@@ -85,7 +80,7 @@ def test_each_file_is_a_request(built: Office, between: Between) -> None:
 def test_what_isnt_taken_stops_no_other_file(built: Office) -> None:
     built.file("log", b"text")
     built["ann"].ends(1, "submit log vmlinuz-arm64 --title 'linux 6.12'", "log: refused 1 Short",
-                      out=["request 1 submitted: linux 6.12 arm64"])
+                      out=["request 1 submitted: linux 6.12 / arm64"])
     (built.desk.room / "b").mkdir()
     built.file("b/vmlinuz-arm64", image("arm64", bytes(16)))
     built.refuses_all(
@@ -114,14 +109,14 @@ def test_a_file_that_was_submitted_before_is_asked_about(built: Office) -> None:
 def test_an_uploads_rows_stand_below_one_row(built: Office) -> None:
     built["ann"].does("submit vmlinuz-amd64 --title 'shim 16 amd64'")
     built["ann"].does(f"submit {FILES} --title 'linux 6.12'")
-    built["ann"].does("submit vmlinuz-arm64 --title 'linux 6.12 arm64 again'")
+    built["ann"].does("submit vmlinuz-arm64 --title 'linux 6.12 / arm64 again'")
     status, said = built["rita"].asked("requests", size=(24, 80))
     rows = [line.split() for line in said.splitlines()[1:]]
     found = [" ".join(row if row[0] == "linux" else row[5:]) for row in rows]
     expect((status, found), (0, [
         "shim 16 amd64", "linux 6.12: 2 3 4 5", "amd64", "amd64 cloud", "arm64", "arm64 again",
     ]), said)
-    assert "linux 6.12 amd64 cloud" in built["rita"].does("requests"), "what a pipe gets"
+    assert "linux 6.12 / amd64 cloud" in built["rita"].does("requests"), "what a pipe gets"
 
 
 def test_a_review_of_an_upload_shows_what_was_signed_before(

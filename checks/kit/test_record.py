@@ -12,7 +12,7 @@ from pathlib import Path
 
 import pytest
 
-from checks.kit.standins import NOTING, Tree
+from checks.kit.standins import Tree
 
 pytestmark = pytest.mark.needs("git")
 LINE = "logic=proved functions=1 sum=0"
@@ -28,7 +28,6 @@ def git(tree: Tree, *words: str) -> str:
 def tree(tmp_path: Path) -> Tree:
     """A committed tree, with a proved program and its record."""
     made = Tree(tmp_path / "tree")
-    made.command("rt", NOTING)
     (made.at / ".gitignore").write_text("out/\n__pycache__/\n")
     (made.at / "page").mkdir()
     (made.at / "page/index.html").write_text("a page\n")
@@ -61,12 +60,9 @@ def writes(tree: Tree, said: str, by: str = "./prove desk", of: str = "") -> str
 
 
 def test_a_record_has_what_was_proved_by_whose_word(tree: Tree) -> None:
-    told = dict(line.split(" ", 1) for line in read(tree).splitlines())
-    files = tree.run("prove", "--sources", "desk").stdout.split()[1]
-    assert told == {
+    assert dict(line.split(" ", 1) for line in read(tree).splitlines()) == {
         "program": hashlib.sha256(Path(program(tree)).read_bytes()).hexdigest(),
-        "sources": f"files {files}",
-        "files": files,
+        "sources": tree.run("prove", "--sources", "desk").stdout.strip(),
         "kit": "a kit",
         "commit": git(tree, "rev-parse", "HEAD"),
         "tree": "clean",
@@ -178,7 +174,8 @@ def test_a_file_more_is_seen_whatever_git_ignores(tree: Tree) -> None:
     assert "tree clean\n" in read(tree)
 
 
-def test_other_sources_than_the_records_dont_fit(tree: Tree) -> None:
+@pytest.mark.parametrize("what", ["sources", "kit"])
+def test_other_sources_or_another_kit_dont_fit(tree: Tree, what: str) -> None:
     record = Path(f"{program(tree)}.record")
-    record.write_text(record.read_text().replace("sources files ", "sources files -"))
-    assert "was proved of other sources, or by another kit" in read(tree)
+    record.write_text(record.read_text().replace(f"{what} ", f"{what} -"))
+    assert f"was proved of another {what}: -" in read(tree)

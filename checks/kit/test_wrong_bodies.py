@@ -66,19 +66,6 @@ def test_one_that_is_not_refused_for_its_meaning_fails(tree: Path, said: str) ->
     assert (status, lines[-1]) == (1, "0 refused, 2 not"), lines
 
 
-@pytest.mark.parametrize("crates", [["none"], ["one", "none"], ["none", "one"]], ids=" ".join)
-def test_a_named_crate_without_one_fails_beside_whatever_crate(
-    tree: Path, crates: list[str]
-) -> None:
-    assert ran(tree, *crates) == (1, ["checks/wrong_bodies.sh: of none there is no wrong body"])
-
-
-def test_a_name_in_both_tiers_fails_and_so_does_a_crate_that_is_not_there(tree: Path) -> None:
-    (tree / "checks/wrong_bodies/two/a.edit").touch()
-    assert ran(tree, "two") == (1, ["checks/wrong_bodies.sh: two has a.edit in both tiers"])
-    assert ran(tree, "three") == (1, ["checks/wrong_bodies.sh: there is no crate three"])
-
-
 def test_the_last_whole_run_is_of_bodies_that_stand() -> None:
     lines = (ROOT / "checks/wrong_bodies/tried.tsv").read_text().splitlines()
     assert lines[0].split("\t") == ["crate", "tier", "name", "file", "goal", "how refused"]

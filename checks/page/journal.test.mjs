@@ -149,14 +149,14 @@ test('If-Match goes out with each try under its key, also where it is asked agai
     assert.deepEqual([line.matches, line.count()], [Array(9).fill('"aa"'), 1]);
 });
 
-test('a command about another tag, or none, shares no key with one that waits', async () => {
+test('a command about another tag shares no key with one that waits', async () => {
     const line = new Line(...LOST, DONE, DONE, DONE);
     const first = about('aa');
     const { run } = await untilLost(first);
-    for (const tag of ['bb', undefined]) await about(tag).run();
+    for (const tag of ['bb', 'cc']) await about(tag).run();
     first.askAgain();
     assert.equal((await run).kind, 'value');
-    assert.deepEqual(line.matches, [...Array(4).fill('"aa"'), '"bb"', undefined, '"aa"']);
+    assert.deepEqual(line.matches, [...Array(4).fill('"aa"'), '"bb"', '"cc"', '"aa"']);
     assert.deepEqual([line.count(0, 4), line.count(3, 6), line.count()], [1, 3, 3]);
     assert.equal(line.keys[6], line.keys[0]);
 });

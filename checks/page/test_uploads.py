@@ -22,19 +22,19 @@ FIRST = 2
 def upload(site: Site) -> Site:
     """Seven files that wait, of which one name was signed before, and another image of raul's."""
     site.does("olga", "/db/certificates", CERTIFICATE)
-    site.submits(unsigned(1), "linux 6.11.9-2 amd64")
+    site.submits(unsigned(1), "linux 6.11.9-2 / amd64")
     for name in ("rita", "raul"):
         site.reviews(name, 1)
     site.does("sid", "/requests/1/return", signed(unsigned(1)))
     for number, name in enumerate(FILES, FIRST):
-        site.submits(unsigned(number, 4), f"{TITLE} {name}")
+        site.submits(unsigned(number, 4), f"{TITLE} / {name}")
     site.submits(unsigned(50), "another loader", "raul")
     return site
 
 
 def opens(browser: Browser, title: str = f"{TITLE} 7 files") -> None:
     browser.press(title)
-    browser.sees(f"{TITLE} arm64 16k")
+    browser.sees(f"{TITLE} / arm64 16k")
 
 
 def votes(site: Site) -> list[str]:
@@ -48,7 +48,7 @@ def opens_and_closes(browser: Browser) -> None:
     """The row of the upload: its files are shown where it is open, and not else."""
     browser.go("inbox")
     browser.sees(f"{TITLE} 7 files", "1 of 2 yes, by raul", "Review 7 files", "another loader")
-    assert f"{TITLE} amd64" not in browser.text(), browser.text()
+    assert f"{TITLE} / amd64" not in browser.text(), browser.text()
     expect(len(browser.all("tbody tr")), 2, "rows of the view")
     opens(browser)
     expect(len(browser.all("tbody tr")), 9, "rows of the open view")
@@ -58,7 +58,7 @@ def opens_and_closes(browser: Browser) -> None:
     looked(browser, "an upload in the first view")
     browser.go("lists")
     browser.go("inbox")
-    browser.sees(f"{TITLE} amd64 cloud")
+    browser.sees(f"{TITLE} / amd64 cloud")
     browser.press(f"{TITLE} 7 files")
     until(20, "it is closed", lambda: len(browser.all("tbody tr")) == 2, browser.text)
 
@@ -72,7 +72,7 @@ def test_an_upload_is_one_row_that_opens(browser: Browser, upload: Site) -> None
     browser.sees("Waits for you 8")
     expect(browser.texts("#views a")[0], "For you 8", "the count at the link")
     opens(browser)
-    browser.press(f"{TITLE} arm64 16k", tag="a")
+    browser.press(f"{TITLE} / arm64 16k", tag="a")
     browser.sees(f"Request {FIRST + 4}", "Your vote")
     # Where reviews differ each is told; a file that is barred is told though the row is closed.
     upload.reviews("rita", FIRST)
@@ -123,7 +123,7 @@ def test_six_of_seven_files_are_reviewed_in_one_look(browser: Browser, upload: S
     browser.press("Review 7 files", tag="a")
     browser.sees(
         "Review 7 files", TITLE, "1 file barred today: arm64", "1 file not as signed last: amd64",
-        "6 files not signed before: amd64 cloud,", "request 1, linux 6.11.9-2 amd64",
+        "6 files not signed before: amd64 cloud,", "request 1, linux 6.11.9-2 / amd64",
         "grub 4, before 3 changed", "sbat 1, as before", "Barred today: its digest is revoked.",
         "Yes: 2 files are approved, since one reviewer has agreed already; for",
     )

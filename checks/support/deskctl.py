@@ -26,10 +26,11 @@ NO_TERMINAL = "no terminal to ask at"
 def compiled(folder: Path) -> list[str]:
     """How deskctl is begun, by its bytecode: so many short runs would only compile."""
     python = DESKCTL.read_text(encoding="utf-8").split("\n")[0][2:].split()
-    shutil.copytree(ROOT / "python", folder / "python")
-    shutil.copytree(ROOT / "page" / "wire", folder / "python" / "kovelamiru" / "wire")
-    ran(*python, "-m", "compileall", "-q", folder / "python")
-    return [*python, str(folder / "python")]
+    package = folder / "kovelamiru"
+    shutil.copytree(ROOT / "python" / "kovelamiru", package)
+    shutil.copytree(ROOT / "page" / "wire", package / "wire")
+    ran(*python, "-m", "compileall", "-q", package)
+    return [*python, shutil.copy(DESKCTL, folder)]
 
 
 def with_room(size: int) -> Callable[[], None]:

@@ -57,9 +57,6 @@ export function reply(status, text) {
 }
 
 // The field by which a command lands on what was shown, or on nothing (If-Match, RFC 9110, section
-// 13.1.1): of a request the SHA-256 of its submitted file, of a proposal its tag. A desk that is
-// older than the field shows no tag.
-/** @param {string | undefined} tag @returns {Record<string, string>} */
-export function matching(tag) {
-    return tag === undefined ? {} : { 'If-Match': `"${tag}"` };
-}
+// 13.1.1): of a request the SHA-256 of its submitted file, of a proposal its tag.
+/** @param {string} tag @returns {Record<string, string>} */
+export const matching = (tag) => ({ 'If-Match': `"${tag}"` });

@@ -1,5 +1,5 @@
-// The lists of requests and of proposals, read in parts; of an older desk, which has none, whole.
-// And the requests that have one of a few digests.
+// The lists of requests and of proposals, read in parts, and the requests that have one of a few
+// digests.
 
 import { get, isOwnToken } from './api.js';
 
@@ -17,15 +17,10 @@ const MOST = 20;
 /** So many of these questions go out at once. */
 const AT_ONCE = 4;
 
-// Whether the desk is older than a path, or the site before it is, which then answers itself.
-/** @param {Answer} answer */
-const isOlder = (answer) => answer.kind === 'refused'
-    && (answer.name === 'NoRoute' || answer.status === 404 && !answer.byDesk);
-
 /**
  * @param {'requests' | 'proposals'} name
  * @param {(some: any[]) => void} [take] is given all that came so far, as parts come
- * @param {number} [first] the least number that is asked for; an older desk gives those before too
+ * @param {number} [first] the least number that is asked for
  * @returns {Promise<import('./types.js').Answer<any[]>>} all of them
  */
 export async function listed(name, take = () => {}, first = 1) {
@@ -34,7 +29,6 @@ export async function listed(name, take = () => {}, first = 1) {
     for (;;) {
         const from = (all.at(-1)?.number ?? first - 1) + 1;
         const answer = await get(`/${name}/from/${from}`);
-        if (isOlder(answer)) return get(`/${name}`);
         if (answer.kind !== 'value') return answer;
         all.push(...answer.value);
         if (answer.value.length < PART) return { kind: 'value', value: all };
@@ -57,7 +51,6 @@ export async function requestsWith(digests) {
     for (let at = 0; at < asked.length; at += AT_ONCE) {
         const some = asked.slice(at, at + AT_ONCE).map((one) => get(`/requests/with/${one}`));
         for (const answer of await Promise.all(some)) {
-            if (isOlder(answer)) return listed('requests');
             if (answer.kind !== 'value') return answer;
             // (such an answer may lack the later ones)
             if (answer.value.length >= PART) return listed('requests');

@@ -23,16 +23,14 @@ export function reasonsIn(lines) {
     return found;
 }
 
-// Those of a proposal: the newest lines first, back to the call that made it. None at a desk that
-// is older than /changes.
+// Those of a proposal: the newest lines first, back to the call that made it.
 /** @param {number} number @returns {Promise<import('./types.js').Answer<Reason[]>>} */
 export async function reasonsOf(number) {
     const told = await get('/changes');
-    const isOld = told.kind === 'refused' && told.name === 'NoRoute';
-    if (told.kind !== 'value' && !isOld) return told;
+    if (told.kind !== 'value') return told;
     /** @type {Reason[]} */
     let found = [];
-    let last = told.kind === 'value' ? told.value.changes : 0;
+    let last = told.value.changes;
     while (last > 0) {
         const first = Math.max(last - PART + 1, 1);
         const answer = await get(`/minutes/${first}`, 'text');

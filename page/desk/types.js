@@ -13,7 +13,7 @@
  * @typedef {{ number: number, officer: string, state: string } & Counts} ProposalRow in the list
  * @typedef {{ certificates: string[], components: Component[], digests: string[], kind: string,
  *   number: number, officer: string, passed: number, stamp: number | null,
- *   state: string, tag?: string }} Proposal its tag only from desks that have it
+ *   state: string, tag: string }} Proposal
  * @typedef {{ verdict: string, component?: string, generation?: number, level?: number }} Verdict
  * @typedef {{ allowed: boolean, by: Verdict, file: 'submitted' | 'returned', request: number,
  *   state: string, submitter: string, title: string }} Barred

@@ -1,10 +1,10 @@
-// The files of one upload: requests of one submitter whose titles are alike but for what tells the
-// files apart. The desk knows no uploads, and each file has votes of its own.
+// The files of one upload: requests of one submitter whose titles are alike up to a last ` / `. The
+// desk knows no uploads, and each file has votes of its own.
 
 import { get } from './api.js';
 import { me } from './session.js';
 import { standing } from './standing.js';
-import { groupOf, nameOf, namesArch } from './titles.js';
+import { groupOf, nameOf } from './titles.js';
 import { waitingNow } from './waiting.js';
 import { votesBy } from '../formats/words.js';
 
@@ -70,13 +70,9 @@ export const waitsForVote = ({ state, submitter, votes }) => (
         && !votes.some(({ reviewer }) => reviewer === me.name)
 );
 
-// The architecture that a title names, or ''; the desk records none.
-/** @param {string} title */
-export const architectureIn = (title) => title.split(' ').find(namesArch) ?? '';
-
 /**
  * Of each name among these the request that was signed last, as far as the parts of the list have
- * it that come before; none at a desk without parts.
+ * it that come before.
  * @param {Pick<Request, 'number' | 'title'>[]} some
  * @returns {Promise<import('./types.js').Answer<Map<string, Request>>>}
  */
@@ -88,7 +84,6 @@ export async function lastSigned(some) {
     const end = Math.max(...some.map(({ number }) => number));
     for (let first = end - PART + 1; first > end - LOOKED_THROUGH; first -= PART) {
         const answer = await get(`/requests/from/${Math.max(first, 1)}`);
-        if (answer.kind === 'refused' && answer.name === 'NoRoute') break;
         if (answer.kind !== 'value') return answer;
         for (const one of answer.value.reverse()) {
             const name = nameOf(one.title);

@@ -11,9 +11,7 @@ import { me } from './session.js';
 /** @typedef {ReturnType<typeof nothing>} Inbox */
 
 const nothing = () => ({
-    /** Whether the desk is older than its routes /changes and /waiting. */
-    isOld: false,
-    /** The desk's number of changes when it was read; -1 before, and where it has none. */
+    /** The desk's number of changes when it was read; -1 before. */
     changes: -1,
     /** @type {Waiting | null} null until it was read */
     waiting: null,
@@ -69,17 +67,13 @@ export function look(anew = false) {
     return run;
 }
 
-/** @param {Answer} answer */
-const isNoRoute = (answer) => answer.kind === 'refused' && answer.name === 'NoRoute';
-
 /** @param {Inbox} into @returns {Promise<Answer>} */
 async function readInto(into) {
-    const told = into.isOld ? null : await get('/changes');
-    into.isOld ||= told !== null && isNoRoute(told);
-    if (!into.isOld && told?.kind !== 'value') return told ?? { kind: 'lost', status: 0 };
-    const changes = told?.kind === 'value' ? told.value.changes : -1;
-    if (changes >= 0 && changes === into.changes) return { kind: 'value', value: into };
-    const answer = into.isOld ? await ofLists() : await get('/waiting');
+    const told = await get('/changes');
+    if (told.kind !== 'value') return told;
+    const { changes } = told.value;
+    if (changes === into.changes) return { kind: 'value', value: into };
+    const answer = await get('/waiting');
     if (answer.kind !== 'value') return answer;
     const fault = await takeOwn(into, answer.value.requests.filter(isOwn));
     if (fault) return fault;
@@ -92,31 +86,7 @@ async function readInto(into) {
 /** @returns {Promise<import('./types.js').Answer<Waiting>>} */
 export async function waitingNow() {
     const looked = await look(true);
-    if (looked.kind !== 'value') return looked;
-    return mine.isOld ? ofLists() : get('/waiting');
-}
-
-// What GET /waiting would give, of the lists of an older desk.
-/** @returns {Promise<import('./types.js').Answer<Waiting>>} */
-async function ofLists() {
-    const answer = await get(me.officer ? '/proposals' : '/requests');
-    if (answer.kind !== 'value') return answer;
-    /** @type {ProposalRow[]} */
-    const proposals = me.officer ? answer.value : [];
-    const others = proposals.filter(({ officer }) => officer !== me.name);
-    const value = {
-        requests: me.officer ? [] : answer.value.filter(waits),
-        proposals: others.filter(({ state }) => state === 'open'),
-    };
-    return { kind: 'value', value };
-}
-
-/** @param {Request} request */
-function waits(request) {
-    const { state, votes } = request;
-    if (isOwn(request)) return state === 'open' || state === 'approved';
-    if (me.signer) return state === 'approved';
-    return me.reviewer && state === 'open' && !votes.some(({ reviewer }) => reviewer === me.name);
+    return looked.kind === 'value' ? get('/waiting') : looked;
 }
 
 /** @param {Request} request */

@@ -9,7 +9,7 @@
  * @typedef {{ types: ListType[], owners: Texts, versions: Texts }} Lists
  * @typedef {Record<string, { name: string, means: string }>} States
  * @typedef {{ votes: Texts, rules: Texts, names: Texts, shim: Texts, requests: States,
- *   returned: string, proposals: States, arches: Texts, flavours: string[],
+ *   returned: string, proposals: States, arches: Texts,
  *   looks: [begin: string, words: string][], brought: Texts }} Words
  * @typedef {{ kind: string, command: string, reply: string, sentence: string }} Sentence
  * @typedef {{ none: string, of: [word: string, one: string, many: string][] }} Count

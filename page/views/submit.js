@@ -19,7 +19,8 @@ import { textFault } from '../formats/words.js';
 
 /** @typedef {import('./files.js').Chosen} Chosen */
 
-const HINT = 'What it is, as reviewers read it: package, version, architecture.';
+const HINT = 'What it is, as reviewers read it: package, version, architecture. The files of one '
+    + 'upload have one text, then “ / ” and what tells each apart.';
 
 /** @param {HTMLElement} place */
 export function submitView(place) {

@@ -6,7 +6,6 @@ import { digest, requestLink } from './marks.js';
 import { besides, sameCarried } from '../desk/compare.js';
 import { barredBy } from '../desk/standing.js';
 import { apartIn } from '../desk/titles.js';
-import { architectureIn } from '../desk/uploads.js';
 import { counted, ruleWords, votesBy } from '../formats/words.js';
 
 /** @typedef {import('./dom.js').Child} Child */
@@ -87,7 +86,6 @@ export function fileCard(one, last, now, check) {
         barred ? box('bad', p(strong('Barred today: '), `${ruleWords(barred)}.`)) : null,
         facts([
             ['Signed last', before],
-            ['Architecture', architectureIn(title) || 'the title names none'],
             [
                 'Digest in a signature',
                 [digest(signing, 'the digest in a signature'), isSame ? h('div', {}, SAME) : null],

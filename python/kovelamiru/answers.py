@@ -6,8 +6,7 @@ from dataclasses import dataclass, fields
 from typing import Any, Collection, Optional, TypeVar
 
 from .desk import PART, Desk
-from .faults import REFUSED, Stop, no_desks
-from .http import Call
+from .faults import no_desks
 from .words import HEX, KINDS, printable
 
 T = TypeVar("T")
@@ -119,19 +118,9 @@ def titled(request: Request) -> str:
     return f"request {request.number} ({printable(request.state)}, {printable(request.title)})"
 
 
-def me_of(desk: Desk) -> Optional[Me]:
-    """Who calls; nothing where the desk has no such route."""
-    answer = desk.if_there(Call("GET", "/me"))
-    return shaped(Me, answer.object()) if answer else None
-
-
-def caller_of(desk: Desk) -> Me:
+def me_of(desk: Desk) -> Me:
     """Who calls."""
-    found = me_of(desk)
-    if found is None:
-        raise Stop(REFUSED, "this desk doesn't tell who you are (refused 53 NoRoute)",
-                   "Its program is older than deskctl.")
-    return found
+    return shaped(Me, desk.get("/me").object())
 
 
 def request_of(desk: Desk, number: int) -> Request:
@@ -139,8 +128,8 @@ def request_of(desk: Desk, number: int) -> Request:
 
 
 def having(desk: Desk, digests: Collection[str]) -> Optional[Having]:
-    """The requests that have one of these; nothing where the list is to be read: for many, for what
-    is no digest, at an older desk."""
+    """The requests that have one of these; nothing where the list is to be read: for many, and for
+    what is no digest."""
     if len(digests) > MOST or not all(map(HEX.match, digests)):
         return None
     found: dict[int, Request] = {}
@@ -155,7 +144,7 @@ def having(desk: Desk, digests: Collection[str]) -> Optional[Having]:
 
 
 def proposal_in(value: Any) -> Proposal:
-    """A proposal, whose tag is that of what it names. An older desk shows none."""
+    """A proposal, whose tag is that of what it names."""
     one = shaped(Proposal, value)
     if value.get("tag", one.tag()) != one.tag():
         raise no_desks(f"the tag of proposal {one.number} isn't that of what it names")

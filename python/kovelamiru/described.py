@@ -3,21 +3,17 @@ from __future__ import annotations
 
 import json
 import pathlib
-import pkgutil
 from typing import Any
 
 
-# Where a checkout has them; a package and deskctl as one file have them beside this module.
-CHECKOUT = pathlib.Path(__file__).resolve().parents[2] / "page" / "wire"
+HERE = pathlib.Path(__file__).resolve().parent
+# A package has them beside this module.
+WIRE = next(one for one in (HERE / "wire", HERE.parents[1] / "page" / "wire") if one.is_dir())
 
 
 def described(name: str) -> Any:
     """The table of this name."""
-    try:
-        table = pkgutil.get_data("kovelamiru", f"wire/{name}.json") or b""
-    except FileNotFoundError:
-        table = (CHECKOUT / f"{name}.json").read_bytes()
-    return json.loads(table)
+    return json.loads((WIRE / f"{name}.json").read_bytes())
 
 
 # The most that the desk takes, and what is unusual; roles, votes and states.

@@ -10,7 +10,7 @@ import ssl
 import time
 from typing import Any, Collection, Iterator, Optional
 
-from .faults import LOOK, REFUSED, Lost, NoAnswer, NoPath, Refused, Stop, no_desks
+from .faults import LOOK, REFUSED, Lost, NoAnswer, Stop, no_desks
 from .http import JSON, PIECE, TEXT, UNTAKEN, Answer, Call, Site, Where, not_a_desk
 from .refusals import next_steps
 from .terminal import Progress, Terminal
@@ -101,62 +101,28 @@ class Desk(Site):
     def get(self, path: str) -> Answer:
         return self.ask(Call("GET", path))
 
-    def if_there(self, call: Call) -> Optional[Answer]:
-        """The answer; nothing where an older desk has no such route."""
-        try:
-            return self.ask(call)
-        except Refused as refused:
-            if refused.number == 53:
-                return None
-            raise
-
-    def get_new(self, path: str, what: str) -> Answer:
-        """A GET of a route that older desks don't have."""
-        answer = self.if_there(Call("GET", path))
-        if answer is None:
-            raise Stop(
-                REFUSED, f"this desk has no {what} over HTTP (refused 53 NoRoute): its program is"
-                " older than deskctl",
-                "Whoever keeps the desk reads them by `desk minutes`, while it doesn't serve.")
-        return answer
-
     def listed(self, path: str, first: int = 1,
                texts: Optional[Collection[str]] = None) -> Iterator[dict[str, Any]]:
-        """The objects of a list of numbered things, from this number on: in parts, or of the whole
-        list where an older desk has no parts. With `texts` at least those that have one of them; it
-        ends once there is none left to look for."""
+        """The objects of a list of numbered things, in parts, from this number on. With `texts` at
+        least those that have one of them; it ends once there is none left to look for."""
         more = True
         while more and first <= LAST and (texts is None or texts):
             more = False
-            try:
-                answer = self.get(f"{path}/from/{first}")
-                last = last_without(answer, texts) if texts else 0
-                if last >= first:
-                    first, more = last + 1, True
-                    continue
-                for value in ascending(objects(answer), first):
-                    first, more = value["number"] + 1, True
-                    yield value
-            except Refused as refused:
-                if refused.number != 53:
-                    raise
-                yield from (value for value in self.items(path)
-                            if value.get("number", first) >= first)
+            answer = self.get(f"{path}/from/{first}")
+            last = last_without(answer, texts) if texts else 0
+            if last >= first:
+                first, more = last + 1, True
+                continue
+            for value in ascending(objects(answer), first):
+                first, more = value["number"] + 1, True
+                yield value
 
     def requests_with(self, digest: str) -> Optional[list[dict[str, Any]]]:
-        """The first PART requests that have a digest; nothing where the desk, or the proxy before
-        it, is older than the route, or where the caller's token was typed as one."""
+        """The first PART requests that have a digest; nothing where the caller's token was typed as
+        one."""
         if self.is_token(digest):
             return None
-        try:
-            answer = self.if_there(Call("GET", f"/requests/with/{digest}"))
-        except NoPath:
-            return None
-        return None if answer is None else list(ascending(objects(answer)))
-
-    def items(self, path: str) -> Iterator[dict[str, Any]]:
-        """The objects of a whole list, or of one part."""
-        return objects(self.get(path))
+        return list(ascending(objects(self.get(f"/requests/with/{digest}"))))
 
 
 def objects(answer: Answer) -> Iterator[dict[str, Any]]:
@@ -220,5 +186,4 @@ def proxy_refusal(answer: Answer) -> Stop:
         return not_a_desk(answer)
     text = (f"refused by the proxy: {answer.status} {http.client.responses.get(answer.status, '')}".
             rstrip())
-    kind = NoPath if answer.status == 404 else Stop
-    return kind(REFUSED, text, steps.get(answer.status, "Ask who keeps the proxy."))
+    return Stop(REFUSED, text, steps.get(answer.status, "Ask who keeps the proxy."))

@@ -62,10 +62,6 @@ def no_desks(text: str) -> Lost:
     return Lost(f"the answer isn't a desk's: {text}", True, LOOK)
 
 
-class NoPath(Stop):
-    """A proxy knows no such path."""
-
-
 class NoAnswer(Exception):
     """One try without an answer; `nobody` listens there, or that isn't known."""
     def __init__(self, text: str, sent: bool, nobody: bool = False):

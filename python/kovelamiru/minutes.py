@@ -17,7 +17,7 @@ def is_numbered(data: bytes, number: int) -> bool:
 
 def minutes_from(desk: Desk, number: int) -> bytes:
     """The desk's lines from this one on, 1,000 at most, or none."""
-    answer = desk.get_new(f"/minutes/{number}", "minutes").of_type(TEXT)
+    answer = desk.get(f"/minutes/{number}").of_type(TEXT)
     data = answer.data()
     if not is_numbered(data, number):
         raise not_a_desk(answer)

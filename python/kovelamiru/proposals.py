@@ -90,7 +90,7 @@ def described(desk: Desk, row: Counts, now: Standing) -> str:
     try:
         one = proposal_in(desk.get(path).object())
     except Refused:
-        # It is another desk now, or an older one, which doesn't show it.
+        # It is another desk now.
         return ""
     try:
         found = desk.get(f"{path}/impact").object() if row.digests else None

@@ -6,7 +6,6 @@ import argparse
 import fcntl
 import os
 import ssl
-import sys
 import time
 from typing import Callable, Optional
 
@@ -14,6 +13,7 @@ from .faults import LOST, NoAnswer, Stop, Unreadable, broken, reason, wrong
 from .files import Exposed, is_token, private_line
 from .http import Call, Site, Where, address
 from .minutes import is_numbered
+from .words import tell
 
 # How long a desk may take to answer, however often it is asked, and how long an answer may be: a
 # list of 10,000 certificates has 625 MiB.
@@ -153,5 +153,5 @@ def ended(program: str, lock: str, does: str, work: Callable[[], int]) -> int:
     except Exception as error:  # pylint: disable=broad-except
         # Status 1 is a refusal's: no fault of this program may pass for one.
         status, text = LOST, f"{type(error).__name__}: {error}"
-    print(f"{program}: {text}", file=sys.stderr)
+    tell(f"{program}: {text}")
     return status

@@ -34,10 +34,9 @@ def reasons_in(calls: Iterable[Minute]) -> dict[int, list[Reason]]:
 
 
 def reasons_of(desk: Desk, number: int) -> list[Reason]:
-    """Those of a proposal: the newest lines first, back to the call that made it. None at a desk
-    that is older than /changes."""
+    """Those of a proposal: the newest lines first, back to the call that made it."""
     found: list[Reason] = []
-    last, made = changes_of(desk) or 0, f"\tproposed {number}"
+    last, made = changes_of(desk), f"\tproposed {number}"
     while last > 0:
         first = max(last - PART + 1, 1)
         lines = minutes_from(desk, first).decode("ascii", "replace").splitlines()[:last - first + 1]

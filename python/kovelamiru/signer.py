@@ -7,7 +7,6 @@ from typing import Iterator, Optional, Sequence
 
 from .certificates import Certificate, certificate_in
 from .desk import Desk
-from .faults import Refused
 from .minutes import minute_lines
 from .standing import Standing
 from .words import printable
@@ -77,11 +76,7 @@ def known_bodies(desk: Desk, now: Standing, image: Optional[Beside]) -> list[Cer
     known = [each for each in now.certificates.values() if each]
     known += image.certificates if image else []
     unknown = now.revoked_certificates - {each.tbs for each in known}
-    try:
-        return known + list(listed_before(desk, unknown))
-    except Refused:
-        # An older desk, which has no minutes over HTTP.
-        return known
+    return known + list(listed_before(desk, unknown))
 
 
 def listing_doubts(one: Certificate, now: Standing, known: Sequence[Certificate]) -> list[str]:

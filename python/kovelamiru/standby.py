@@ -21,6 +21,7 @@ from .files import write_all
 from .minutes import copy_of
 from .programs import audited, public_line, signature, unsigned_by
 from .reader import Reader, add_reader, ended, has_reader
+from .words import tell
 
 PIECE = 1 << 20
 # So many bytes of new lines are followed at once, or a little more.
@@ -188,8 +189,7 @@ def published(words: argparse.Namespace) -> Optional[Checkpoint]:
         found = signed_at(words.checkpoint, key_in(words.checkpoint_key), PUBLISHED, words.ca,
                           "desk-standby")
     except (NoAnswer, Unreadable) as fault:
-        print(f"desk-standby: nothing is held against {words.checkpoint}: {fault}",
-              file=sys.stderr)
+        tell(f"desk-standby: nothing is held against {words.checkpoint}: {fault}")
         return None
     if found.owner != words.owner.lower():
         raise refused("checkpoint", f"{words.checkpoint} is of another owner's desk")
@@ -276,11 +276,10 @@ def kept_up(words: argparse.Namespace) -> int:
             if copied.compared(told):
                 break
         else:
-            print("desk-standby: calls came all the time: dbx, db and the level weren't compared",
-                  file=sys.stderr)
+            tell("desk-standby: calls came all the time: dbx, db and the level weren't compared")
         if words.sign:
             testified(words, copied, told)
-        print(told, end="")
+        tell(told.rstrip("\n"), sys.stdout)
     return DONE
 
 

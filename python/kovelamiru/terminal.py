@@ -57,8 +57,8 @@ class Terminal:
         self.asks = err.isatty() and sys.stdin is not None and sys.stdin.isatty()
         self.wide = out.isatty()
 
-    def say(self, text: str = "") -> None:
-        self.out.write(lines_of(text) + "\n")
+    def say(self, text: str = "", end: str = "\n") -> None:
+        self.out.write(lines_of(text) + end)
 
     def data(self, data: bytes) -> None:
         """A result as the desk has it; on a terminal as lines."""
@@ -124,7 +124,7 @@ class Terminal:
             began = subprocess.Popen(["sh", "-c", pager], stdin=subprocess.PIPE, env=environment)
             # Ctrl-C is the pager's.
             before = signal.signal(signal.SIGINT, signal.SIG_IGN)
-            began.communicate("".join(f"{line}\n" for line in lines).encode())
+            began.communicate("".join(f"{printable(line)}\n" for line in lines).encode())
             signal.signal(signal.SIGINT, before)
             if began.returncode not in (126, 127):
                 return

@@ -1,15 +1,13 @@
-"""What waits for somebody at a desk: by the desk's own answer, or, at an older desk, by its whole
-lists."""
+"""What waits for somebody at a desk, by the desk's own answer."""
 from __future__ import annotations
 
 import datetime
 import re
 from dataclasses import dataclass
-from typing import Any, Iterable, Optional
+from typing import Any, Iterable
 
 from .answers import Me, Request, said_number, shaped
 from .desk import Desk
-from .http import Call
 from .journal import now
 from .minutes import minutes_from
 from .sentences import Minute, minute
@@ -31,26 +29,8 @@ class Waiting:
     proposals: list[dict[str, Any]]
 
 
-def waits(me: Me, one: Request) -> bool:
-    """Whether a request waits for the caller, or is theirs and under way (docs/FORMATS.md)."""
-    if me.role == "signer":
-        return one.state == "approved"
-    if one.submitter == me.name:
-        return one.state in UNDER_WAY
-    voted = any(vote["reviewer"] == me.name for vote in one.votes)
-    return me.role == "reviewer" and one.state == "open" and not voted
-
-
-def waiting_of(desk: Desk, me: Me) -> Waiting:
-    answer = desk.if_there(Call("GET", "/waiting"))
-    if answer:
-        return shaped(Waiting, answer.object())
-    if me.role == "officer":
-        proposals = [value for value in desk.items("/proposals")
-                     if value.get("state") == "open" and value.get("officer") != me.name]
-        return Waiting([], proposals)
-    requests = [value for value in desk.items("/requests") if waits(me, shaped(Request, value))]
-    return Waiting(requests, [])
+def waiting_of(desk: Desk) -> Waiting:
+    return shaped(Waiting, desk.get("/waiting").object())
 
 
 def own_proposals(desk: Desk, me: Me) -> list[dict[str, Any]]:
@@ -59,11 +39,9 @@ def own_proposals(desk: Desk, me: Me) -> list[dict[str, Any]]:
             if value.get("state") == "open" and value.get("officer") == me.name]
 
 
-def changes_of(desk: Desk) -> Optional[int]:
-    """A number that changes with what the caller is shown of requests and proposals; nothing at an
-    older desk."""
-    answer = desk.if_there(Call("GET", "/changes"))
-    return said_number(answer.object(), "changes") if answer else None
+def changes_of(desk: Desk) -> int:
+    """A number that changes with what the caller is shown of requests and proposals."""
+    return said_number(desk.get("/changes").object(), "changes")
 
 
 def yes_words(one: Request) -> str:
@@ -73,11 +51,9 @@ def yes_words(one: Request) -> str:
 
 
 def last_calls(desk: Desk) -> list[Minute]:
-    """The desk's last calls; none at an older desk."""
-    changes = changes_of(desk)
-    if changes is None:
-        return []
-    lines = minutes_from(desk, max(changes - PART + 1, 1)).decode("ascii", "replace").splitlines()
+    """The desk's last calls."""
+    first = max(changes_of(desk) - PART + 1, 1)
+    lines = minutes_from(desk, first).decode("ascii", "replace").splitlines()
     return list(filter(None, map(minute, lines)))
 
 

@@ -3,7 +3,8 @@ from __future__ import annotations
 
 import json
 import re
-from typing import Any, Mapping, Sequence
+import sys
+from typing import Any, Mapping, Optional, Sequence, TextIO
 
 HEX = re.compile(r"[0-9A-Fa-f]{64}\Z")
 
@@ -17,6 +18,11 @@ def lines_of(text: str) -> str:
     """The same of lines, which keep their ends and tabs."""
     return text if text.isprintable() else "\n".join(
         "\t".join(map(printable, line.split("\t"))) for line in text.split("\n"))
+
+
+def tell(text: str, stream: Optional[TextIO] = None) -> None:
+    """Prints lines of a program that runs by itself, on standard error where no stream is named."""
+    print(lines_of(text), file=stream or sys.stderr, flush=True)
 
 
 def cut(text: str, width: int) -> str:

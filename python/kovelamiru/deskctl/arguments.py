@@ -97,7 +97,7 @@ OPTIONS: tuple[Word, ...] = (
          help="trust the certificates of this file, not the system's (DESK_CA)"),
     word("--cert", metavar="FILE", help="a client certificate, in PEM (DESK_CERT)"),
     word("--key", metavar="FILE", help="its key, if it is apart (DESK_CERT_KEY)"),
-    word("--name", metavar="NAME", help="your name, for --mine at an older desk (DESK_NAME)"),
+    word("--name", metavar="NAME", help="whose is --mine, if it isn't what is yours (DESK_NAME)"),
     word("--program", metavar="FILE",
          help="take the digests of images from this program desk, not by HTTP (DESK_PROGRAM)"),
     word("--json", action="store_true", help="print the desk's own JSON"),

@@ -16,6 +16,7 @@ from ..terminal import TOKEN, Terminal
 from ..words import printable
 from .arguments import DEFAULTS, OPTIONS, STATUSES, Command
 from .commands import COMMANDS
+from .completing import complete
 from .run import Run
 from .settings import SETTINGS, Names, settings_of
 
@@ -157,6 +158,9 @@ def told(terminal: Terminal, stop: Stop, command: Optional[Command]) -> None:
 def ran(arguments: Sequence[str], terminal: Terminal) -> int:
     command: Optional[Command] = None
     try:
+        if arguments[:1] == ["complete"]:
+            terminal.say(complete(arguments[1:]), end="")
+            return DONE
         words, command = words_of(arguments)
         terminal.quiet, terminal.yes = words.quiet, words.yes
         run = Run(words, settings_of(words), terminal, Journal())

@@ -7,7 +7,6 @@ import re
 import shutil
 import struct
 import subprocess
-from typing import Optional
 
 from ..answers import shaped
 from ..brought import BROUGHT
@@ -32,8 +31,8 @@ def facts_of(run: Run, path: str) -> Facts:
 def facts_read_by(run: Run, path: str, data: bytes) -> Facts:
     """The facts of these bytes, which are the file's."""
     try:
-        facts = asked(run, data) if by_desk(run) else None
-        facts = facts or by_program(run, path)
+        facts = (shaped(Facts, run.desk.ask(Call("POST", "/facts", data)).object())
+                 if by_desk(run) else by_program(run, path))
     except Refused as refused:
         refused.more = ([f"{path} is {looks_like(data)}."] if not data.startswith(b"MZ") else [
             f"The file: {path}", *unread_steps(data, refused.name)])
@@ -55,12 +54,6 @@ def unread_steps(data: bytes, name: str) -> list[str]:
         digests = {}
     words = " ".join(f"--digest {digest}" for digest in digests)
     return [f"{BROUGHT['unread']} deskctl revoke {words}"] if digests else []
-
-
-def asked(run: Run, data: bytes) -> Optional[Facts]:
-    """By the desk; nothing where it has no such route."""
-    answer = run.desk.if_there(Call("POST", "/facts", data))
-    return shaped(Facts, answer.object()) if answer else None
 
 
 def desk_program(run: Run) -> str:

@@ -3,7 +3,7 @@ from __future__ import annotations
 
 from typing import Mapping, Sequence
 
-from ..answers import Counts, Me, Request, caller_of, shaped
+from ..answers import Counts, Me, Request, me_of, shaped
 from ..proposals import counts_words, names_of
 from ..reasons import reasons_in, with_reason
 from ..standing import barred_by, revoked_of
@@ -46,9 +46,9 @@ def section(run: Run, title: str, heads: Sequence[str], rows: Rows, is_grouped: 
 
 
 def inbox(run: Run) -> None:
-    me = caller_of(run.desk)
+    me = me_of(run.desk)
     noticed(run, me)
-    found = waiting_of(run.desk, me)
+    found = waiting_of(run.desk)
     if run.words.json:
         run.print_json({"proposals": found.proposals, "requests": found.requests})
         return

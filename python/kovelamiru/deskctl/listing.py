@@ -6,11 +6,9 @@ from dataclasses import dataclass
 from typing import Any, Callable, Iterable, Iterator, Optional, Sequence
 
 from ..answers import me_of
-from ..faults import wrong
 from ..words import desk_json, printable
 from .arguments import Word, number_word, word
 from .run import Run
-from .settings import config_path
 
 Row = Sequence[object]
 Values = Iterator[dict[str, Any]]
@@ -45,13 +43,8 @@ def list_words(of: List, mine: str) -> tuple[Word, ...]:
 
 
 def own_name(run: Run) -> str:
-    """The caller's name: as it is given, or as the desk has it."""
-    me = None if run.settings.name else me_of(run.desk)
-    name = me.name if me else run.settings.name
-    if not name:
-        wrong("--mine needs your name, which this desk doesn't tell",
-              f"Give --name NAME, DESK_NAME, or `name = NAME` in {config_path()}.")
-    return name
+    """The caller's name, or the one that is given."""
+    return run.settings.name or me_of(run.desk).name
 
 
 def taken(run: Run, of: List) -> Values:
@@ -83,7 +76,7 @@ def print_all(run: Run, values: Iterable[dict[str, Any]]) -> None:
     """As the desk's own JSON, one after another."""
     begin = "["
     for value in values:
-        run.terminal.out.write(begin + desk_json(value))
+        run.terminal.say(begin + desk_json(value), end="")
         begin = ","
     run.terminal.say("]" if begin == "," else "[]")
 

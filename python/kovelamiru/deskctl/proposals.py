@@ -7,7 +7,7 @@ from typing import Any, Callable, Optional, Sequence
 from ..answers import Counts, Impact, Proposal, me_of, proposal_in, said_number, shaped
 from ..described import WORDS
 from ..doubts import Known, known, level_doubts
-from ..faults import REFUSED, Refused, Stop, wrong
+from ..faults import Refused, wrong
 from ..http import Call
 from ..proposals import DESCRIBED, counts_words, described
 from ..questions import plain_question, rule_words
@@ -53,19 +53,6 @@ def proposals(run: Run) -> None:
          proposal_row)
 
 
-BLIND = ("this desk doesn't show what a proposal names, nor what it bars: its program is older than"
-         " deskctl")
-
-
-def row_of(run: Run, number: int) -> Counts:
-    for value in run.desk.listed("/proposals", number):
-        one = shaped(Counts, value)
-        if one.number == number:
-            return one
-        break
-    raise Refused(37, "NoSuchProposal")
-
-
 def impact_of(run: Run, number: int) -> dict[str, Any]:
     return run.desk.get(f"/proposals/{number}/impact").object()
 
@@ -108,23 +95,9 @@ def impact_lines(impact: Impact) -> list[str]:
     return lines
 
 
-def blind_lines(one: Counts) -> list[str]:
-    return [f"proposal {one.number} of {printable(one.officer)}: {printable(one.state)};"
-            f" {kinds(one.named())}"]
-
-
 def proposal(run: Run) -> None:
     number = run.words.number
     value = shown_proposal(run, number)
-    if value is None:
-        if run.words.json:
-            raise Stop(REFUSED, f"{BLIND} (refused 53 NoRoute)",
-                       "`deskctl proposals` has the counts.")
-        for line in blind_lines(row_of(run, number)):
-            run.terminal.say(line)
-        raise Stop(
-            REFUSED, BLIND,
-            "Ask its proposer what it names; whoever keeps the desk reads it by `desk minutes`.")
     one = proposal_in(value)
     impact, lines = foreseen(run, one)
     if run.words.json:
@@ -178,8 +151,7 @@ OWN_PROPOSAL = "You proposed it yourself: the desk takes the Confirm of another 
 
 
 def own_doubts(run: Run, officer: str) -> list[str]:
-    me = me_of(run.desk)
-    return [OWN_PROPOSAL] if me and me.name == officer else []
+    return [OWN_PROPOSAL] if me_of(run.desk).name == officer else []
 
 
 def level_doubts_of(one: Proposal, found: Known) -> list[str]:
@@ -204,12 +176,9 @@ def show_all(run: Run, value: dict[str, Any], one: Proposal) -> Seen:
 
 
 def confirm_asks(run: Run) -> Optional[str]:
-    """What a Confirm would do, and the question; the proposal's tag, where the desk shows it."""
+    """What a Confirm would do, and the question; the proposal's tag."""
     number, words = run.words.number, run.words
     value = shown_proposal(run, number)
-    if value is None:
-        confirm_blind(run)
-        return None
     one = proposal_in(value)
     if one.state != "open":
         # The desk answers: the old reply to the old key, or ProposalClosed.
@@ -244,25 +213,6 @@ def confirm_question(run: Run, seen: Seen) -> None:
               f"Look at it again: deskctl proposal {number}")
 
 
-def confirm_blind(run: Run) -> None:
-    one = row_of(run, run.words.number)
-    if one.state != "open":
-        return
-    for line in blind_lines(one):
-        run.terminal.warn(line)
-    for name in ("bars", "expect"):
-        if getattr(run.words, name) is not None:
-            wrong(f"--{name} can't be compared: {BLIND}",
-                  "Look at what it names by other ways; then --yes.")
-    entries = sum(one.named().values())
-    doubts = own_doubts(run, one.officer)
-    doubts.append(f"{BLIND}. Ask its proposer what it names, and compare.")
-    run.terminal.confirm(
-        doubts,
-        f"At {run.desk.where} nothing takes it back. To confirm, type how many entries it has:",
-        str(entries))
-
-
 def confirm(run: Run) -> None:
     number = run.words.number
     call = Call("POST", f"/proposals/{number}/confirm", b"", (), "confirmed", f"confirm {number}")
@@ -278,7 +228,7 @@ def confirm(run: Run) -> None:
 
 
 def drop_asks(run: Run, taken: bool) -> Optional[str]:
-    """Whether it is meant; the tag of the proposal, where the desk shows it."""
+    """Whether it is meant; the tag of the proposal."""
     number = run.words.number
     value = None if taken else shown_proposal(run, number)
     if not taken:

@@ -7,8 +7,9 @@ import hashlib
 import os
 import secrets
 import stat
+import sys
 
-from ..answers import caller_of
+from ..answers import me_of
 from ..faults import REFUSED, Stop, reason, wrong
 from ..files import fresh, write_all
 from ..http import BYTES, TEXT, not_a_desk
@@ -18,7 +19,7 @@ from .run import Run
 
 
 def people(run: Run) -> None:
-    answer = run.desk.get_new("/people", "list of people")
+    answer = run.desk.get("/people")
     found = answer.json()
     if not isinstance(found, list) or not all(isinstance(one, dict) for one in found):
         raise not_a_desk(answer)
@@ -30,7 +31,7 @@ def people(run: Run) -> None:
 
 
 def me(run: Run) -> None:
-    found = caller_of(run.desk)
+    found = me_of(run.desk)
     if run.words.json:
         run.print_json({"name": found.name, "role": found.role})
         return
@@ -107,7 +108,7 @@ def minutes(run: Run) -> None:
 
 def token(run: Run) -> None:
     """A new token. Only its owner's file gets it; what is printed is its SHA-256."""
-    into, out = run.words.output, run.terminal.out
+    into = run.words.output
     made = "desk_" + secrets.token_urlsafe(32)
     line = (made + "\n").encode()
     if into:
@@ -120,14 +121,14 @@ def token(run: Run) -> None:
             wrong(f"{into}: {reason(error)}", "A token is written into a new file, over none.")
         run.terminal.say(hashlib.sha256(made.encode()).hexdigest())
         return
-    found = os.fstat(out.fileno())
-    if out.isatty():
+    found = os.fstat(sys.stdout.fileno())
+    if run.terminal.wide:
         wrong("a token isn't for a terminal", "deskctl token > FILE, or deskctl token -o FILE")
     if stat.S_ISREG(found.st_mode):
         if found.st_size:
             wrong("the file has something in it already", "A token is a file's first line.")
-        os.fchmod(out.fileno(), 0o600)
-    out.buffer.write(line)
+        os.fchmod(sys.stdout.fileno(), 0o600)
+    run.terminal.data(line)
     run.terminal.flush()
     run.terminal.warn(hashlib.sha256(made.encode()).hexdigest())
 

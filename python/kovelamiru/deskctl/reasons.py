@@ -4,7 +4,7 @@ from __future__ import annotations
 import hashlib
 import os
 import shlex
-from typing import Any, Callable, Optional, Sequence
+from typing import Any, Callable, Sequence
 
 from ..answers import proposal_in, said_number
 from ..described import LIMITS
@@ -35,16 +35,14 @@ def asked_reason(run: Run) -> str:
     return ""
 
 
-def shown_proposal(run: Run, number: int) -> Optional[dict[str, Any]]:
-    """A proposal with all that it names; nothing where the desk has no such route."""
-    answer = run.desk.if_there(Call("GET", f"/proposals/{number}"))
-    return answer.object() if answer else None
+def shown_proposal(run: Run, number: int) -> dict[str, Any]:
+    """A proposal with all that it names."""
+    return run.desk.get(f"/proposals/{number}").object()
 
 
-def tag_of(run: Run, number: int) -> Optional[str]:
-    """The proposal's tag, where the desk shows it."""
-    value = shown_proposal(run, number)
-    return proposal_in(value).tag() if value else None
+def tag_of(run: Run, number: int) -> str:
+    """The proposal's tag."""
+    return proposal_in(shown_proposal(run, number)).tag()
 
 
 def another_proposal(number: int) -> list[str]:

@@ -14,7 +14,7 @@ from ..http import Call
 from ..questions import plain_question, rule_words
 from ..search import request_matches
 from ..standing import barred_by, standing_of
-from ..titles import apart_in, group_of
+from ..titles import upload_of
 from ..words import printable
 from .listing import List, Row, show
 from .run import OTHER_DESK, Run, act
@@ -52,7 +52,7 @@ def grouped(rows: Sequence[Row], title: int, submitter: int) -> list[Row]:
     places of title and submitter in a row that begins with the number."""
     groups: dict[object, list[Row]] = {}
     for row in rows:
-        name = group_of(str(row[title]))
+        name, _ = upload_of(str(row[title]))
         groups.setdefault(row[0] if name is None else (row[submitter], name), []).append(row)
     found: list[Row] = []
     for some in groups.values():
@@ -60,8 +60,8 @@ def grouped(rows: Sequence[Row], title: int, submitter: int) -> list[Row]:
             found += some
             continue
         numbers = " ".join(str(row[0]) for row in some)
-        found.append([f"{group_of(str(some[0][title]))}: {numbers}"])
-        found += [[*row[:title], "  " + apart_in(str(row[title])), *row[title + 1:]]
+        found.append([f"{upload_of(str(some[0][title]))[0]}: {numbers}"])
+        found += [[*row[:title], "  " + upload_of(str(row[title]))[1], *row[title + 1:]]
                   for row in some]
     return found
 
@@ -87,7 +87,7 @@ def request(run: Run) -> None:
     one, me = shaped(Request, value), me_of(run.desk)
     rows: list[tuple[str, object]] = [
         ("number", one.number), ("state", f"{one.state} ({NEXT.get(one.state, '')})"),
-        ("submitter", one.submitter + (" (you)" if me and me.name == one.submitter else "")),
+        ("submitter", one.submitter + (" (you)" if me.name == one.submitter else "")),
         ("title", one.title), ("length", one.length), ("file", one.file), ("digest", one.digest),
         ("signing", one.signing)]
     rows += [("gap", gap_words(one.gap))] if one.gap else []

@@ -6,7 +6,7 @@ import os
 from dataclasses import dataclass
 from typing import Any, Optional, Sequence
 
-from ..answers import Request, caller_of, having, request_of, shaped
+from ..answers import Request, having, request_of, shaped
 from ..facts import Facts
 from ..faults import Causes, Refused, wrong
 from ..files import IMAGE_LIMIT, read_file
@@ -132,8 +132,8 @@ def images_of(run: Run, path: str) -> list[Image]:
 
 def candidates(run: Run, images: Sequence[Image]) -> list[Request]:
     """The requests that wait for a signature, and those of the image of a file that is for none of
-    these; at an older desk then all."""
-    found = [shaped(Request, value) for value in waiting_of(run.desk, caller_of(run.desk)).requests]
+    these."""
+    found = [shaped(Request, value) for value in waiting_of(run.desk).requests]
     left = {image.facts.digest for image in images
             if not any(is_for(one, image.facts) for one in found)}
     more = having(run.desk, left)

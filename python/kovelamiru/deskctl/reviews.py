@@ -6,6 +6,7 @@ from typing import Any, Optional, Sequence
 from ..answers import Request, me_of, request_of, shaped, titled
 from ..compare import beside_lines
 from ..described import LIMITS
+from ..desk import objects
 from ..faults import Causes, Refused, Stop
 from ..http import Call
 from ..questions import plain_question, several_question, yes_question
@@ -42,7 +43,7 @@ def doubts_of(run: Run, requests: Sequence[Request]) -> tuple[bool, list[list[st
     me, forced, found = me_of(run.desk), False, []
     now = standing_of(run.desk) if run.words.vote == "yes" else None
     for one in requests:
-        if me and one.submitter == me.name:
+        if one.submitter == me.name:
             forced = True
             found.append([OWN_REQUEST])
         elif now is None:
@@ -56,17 +57,11 @@ def doubts_of(run: Run, requests: Sequence[Request]) -> tuple[bool, list[list[st
 
 def last_signed(run: Run, some: Sequence[Request]) -> dict[str, Request]:
     """Of each name among these the request that was signed last, as far as the parts of the list
-    have it that come before; none at a desk without parts."""
+    have it that come before."""
     wanted, found = {name_of(one.title) for one in some}, dict[str, Request]()
     end = max(one.number for one in some)
     for first in range(end - PART + 1, end - PARTS * PART, -PART):
-        try:
-            part = list(run.desk.items(f"/requests/from/{max(first, 1)}"))
-        except Refused as refused:
-            if refused.number != 53:
-                raise
-            break
-        for value in reversed(part):
+        for value in reversed(list(objects(run.desk.get(f"/requests/from/{max(first, 1)}")))):
             one = shaped(Request, value)
             name = name_of(one.title)
             if one.state == "signed" and name in wanted:

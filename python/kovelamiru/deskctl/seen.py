@@ -56,8 +56,6 @@ def digest(lines: list[bytes]) -> str:
 def noticed(run: Run, me: Me) -> None:
     """Says it, once, where what was seen last is gone."""
     changes = changes_of(run.desk)
-    if changes is None:
-        return
     folder = os.path.join(folder_of("XDG_STATE_HOME", ".local/state"), "deskctl-seen")
     path = os.path.join(folder, f"{run.desk.caller}.json")
     last, now, there = seen_in(path), Seen(changes), True

@@ -21,8 +21,9 @@ REQUESTS: tuple[Command, ...] = (
             "submitters and reviewers",
             ("Prints the request's number and the file's SHA-256. The desk keeps the image's facts"
              " and not the image: reviewers and the signer get the file from you, and compare that"
-             " SHA-256. Of several files each title has the file's architecture behind it, and what"
-             " distinguishes its name: linux 6.12.118-1 arm64 cloud. On a terminal it asks before a"
+             " SHA-256. Of several files each title has a slash behind it, the file's architecture,"
+             " and what distinguishes its name: linux 6.12.118-1 / arm64 cloud. What is alike up to"
+             " a last slash between spaces is shown as one upload. On a terminal it asks before a"
              " file that you submitted before."),
             "deskctl submit shimx64.efi --title 'shim 16.1-1 amd64'"),
     Command(

@@ -12,7 +12,7 @@ from dataclasses import asdict, dataclass
 from typing import Any, Iterator, Optional, Sequence
 
 from ..answers import Counts, Me, Request, me_of, request_of, shaped
-from ..faults import LOST, REFUSED, Lost, Refused, Stop, broken, reason, wrong
+from ..faults import LOST, Lost, Refused, Stop, broken, reason, wrong
 from ..files import folder_of, fresh
 from ..questions import rule_words
 from ..standing import Standing, barred_by, revoked_of
@@ -162,7 +162,7 @@ def own_of(run: Run, me: Me, memory: Memory, waits: Sequence[Request]) -> tuple[
 
 def look(run: Run, me: Me, memory: Memory) -> tuple[list[Event], list[Request], int]:
     """What is new to the caller; one's own requests; the number of the last one that is seen."""
-    found = waiting_of(run.desk, me)
+    found = waiting_of(run.desk)
     waits = [shaped(Request, value) for value in found.requests]
     events = [proposed(shaped(Counts, value)) for value in found.proposals]
     events += [event for one in waits for event in asked(me, one)]
@@ -229,7 +229,7 @@ def turn(run: Run, me: Me, memory: Memory) -> None:
     """Looks, unless the desk says that nothing changed. To a submitter it doesn't say that of the
     lists which bar images."""
     changes = changes_of(run.desk)
-    if changes is not None and changes < memory.changes:
+    if changes < memory.changes:
         run.terminal.warn(lost(me, memory.changes))
     if changes == memory.changes and not (me.role == "submitter" and memory.own):
         return
@@ -246,9 +246,6 @@ def watch(run: Run) -> None:
     if run.words.handler is not None:
         command_of(run.words.handler)
     me = me_of(run.desk)
-    if me is None:
-        raise Stop(REFUSED, "this desk doesn't say who calls (refused 53 NoRoute)",
-                   "Its program is older than deskctl.")
     memory = Memory(run)
     while True:
         begun = time.monotonic()

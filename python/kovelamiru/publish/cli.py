@@ -14,6 +14,7 @@ from typing import Any
 
 from ..faults import DONE, broken, wrong
 from ..reader import Reader, add_reader, ended, has_reader
+from ..words import tell
 from .desk import Found, from_file, from_url
 from .folder import current, filled, hidden, linked, named, published, settled, swept
 from .rules import judged
@@ -136,13 +137,13 @@ def publish(words: argparse.Namespace, link: str) -> str:
     witnessed(words, last, found)
     found, waits = judged(words, last.found if last else None, found)
     if waits:
-        print(f"desk-publish: db stays as of call {found.db_calls}: {waits}", file=sys.stderr)
+        tell(f"desk-publish: db stays as of call {found.db_calls}: {waits}")
     # (as late as the last one at least, whatever the clock says)
     clock = int(time.time())
     now = max(clock, last.date if last else 0)
     if now > clock + 86400:
-        print(f"desk-publish: what is published has the date {day(now)}, ahead of this clock: until"
-              " then --renew does nothing", file=sys.stderr)
+        tell(f"desk-publish: what is published has the date {day(now)}, ahead of this clock: until"
+              " then --renew does nothing")
     if last and last.found == found and (
             not words.renew or now - last.date < words.renew * 3600) and settled(words, link):
         return f"calls {found.calls}: nothing new"
@@ -224,7 +225,7 @@ def main() -> int:
     link = os.path.abspath(words.folder)
 
     def work() -> int:
-        print(publish(words, link))
+        tell(publish(words, link), sys.stdout)
         return DONE
 
     return ended("desk-publish", f"{link}.lock", "publishing", work)

@@ -18,6 +18,7 @@ from ..fetch import fetched
 from ..programs import refused, unsigned
 from ..reader import ended
 from ..shim import NAME as SHIM
+from ..words import tell
 from .desk import LISTS, audit_of, digest
 from .files import read, synced, write
 from .folder import DB_AUDIT, current, linked, swept
@@ -61,13 +62,8 @@ The options stand in /etc/default/kovelamiru-mirror, for kovelamiru-mirror.timer
   MIRROR="--url https://desk.example.org/published --signers /etc/kovelamiru.signers \\
       --name desk.example.org --oldest 48 --first"
 
-Exit status: 0 mirrored, or nothing new; 1 refused; 2 wrong words; 3 a file, the connection or a
-program failed
+Exit status: 0 mirrored, or nothing new; 1 refused; 2 wrong words; 3 a file, host or program failed
 """
-
-
-def say(text: str) -> None:
-    print(text, flush=True)
 
 
 def asked(words: argparse.Namespace, url: str, until: float, most: int = FILE_BYTES,
@@ -134,7 +130,7 @@ def telling(name: str) -> Callable[[int], None]:
     def heard(size: int) -> None:
         if time.monotonic() - last[0] >= SAID_SECONDS:
             last[0] = time.monotonic()
-            say(f"  {name}: {size:,} bytes so far")
+            tell(f"  {name}: {size:,} bytes so far", sys.stdout)
 
     return heard
 
@@ -149,7 +145,7 @@ def filled(words: argparse.Namespace, new: str, files: dict[str, bytes], now: Su
             os.link(old, path)
             continue
         data = asked(words, f"{base}/{name}", until, heard=telling(name))
-        say(f"  {name}: {len(data):,} bytes")
+        tell(f"  {name}: {len(data):,} bytes", sys.stdout)
         if hashlib.sha256(data).hexdigest() != due:
             refused("sums", f"{base}/{name} isn't the file of its sum")
         write(path, data, 0o644)
@@ -257,7 +253,7 @@ def mirrored(words: argparse.Namespace) -> str:
     if last == now and is_whole(words.folder, now, words.minutes):
         said = f"{text}: nothing new"
     else:
-        say(f"{text}: fetching")
+        tell(f"{text}: fetching", sys.stdout)
         replaced(words, files, now, last)
         swept(words.folder, words.keep)
         said = f"{text}: mirrored in {now.folder}"
@@ -268,27 +264,22 @@ def mirrored(words: argparse.Namespace) -> str:
 
 
 def words_of(arguments: list[str]) -> argparse.Namespace:
-    parser = argparse.ArgumentParser(prog=PROGRAM, description=ABOUT,
-                                     formatter_class=argparse.RawDescriptionHelpFormatter,
-                                     allow_abbrev=False)
+    parser = argparse.ArgumentParser(prog=PROGRAM, description=ABOUT, allow_abbrev=False,
+                                     formatter_class=argparse.RawDescriptionHelpFormatter)
     parser.add_argument("folder", metavar="FOLDER", help="what is served: a link that this makes")
-    for name, word, text in (
-        ("--url", "URL", "the published folder, as https://desk.example.org/published"),
-        ("--signers", "FILE", "whose keys count: lines `NAME KEY`"),
-        ("--name", "NAME", "who publishes, by SIGNERS")):
-        parser.add_argument(name, metavar=word, required=True, help=text)
-    parser.add_argument("--ca", metavar="FILE",
-                        help="certificates that the site's has to come from, in PEM")
-    parser.add_argument("--witnesses", metavar="FILE",
-                        help="who signs the checkpoint, too: lines `NAME - KEY`")
-    parser.add_argument("-k", metavar="N", type=int, default=1,
-                        help="how many of them have to (1)")
-    parser.add_argument("--oldest", metavar="HOURS", type=int, default=0,
-                        help="fail where the date is older")
+    for name, word, default, text in (
+        ("--url", "URL", ..., "the published folder, as https://desk.example.org/published"),
+        ("--signers", "FILE", ..., "whose keys count: lines `NAME KEY`"),
+        ("--name", "NAME", ..., "who publishes, by SIGNERS"),
+        ("--ca", "FILE", None, "certificates that the site's has to come from, in PEM"),
+        ("--witnesses", "FILE", None, "who signs the checkpoint, too: lines `NAME - KEY`"),
+        ("-k", "N", 1, "how many of them have to (1)"),
+        ("--oldest", "HOURS", 0, "fail where the date is older"),
+        ("--keep", "N", 10, "how many folders stay (10)")):
+        parser.add_argument(name, metavar=word, required=default is ..., default=default, help=text,
+                            type=int if isinstance(default, int) else str)
     parser.add_argument("--minutes", action="store_true", help="minutes.txt, too, if it is public")
     parser.add_argument("--first", action="store_true", help="FOLDER isn't there yet")
-    parser.add_argument("--keep", metavar="N", type=int, default=10,
-                        help="how many folders stay (10)")
     words = parser.parse_args(arguments)
     words.folder, words.url = os.path.abspath(words.folder), words.url.rstrip("/")
     if not re.fullmatch(r"https?://[^/]+/.*", words.url):
@@ -303,7 +294,7 @@ def main() -> int:
     words = words_of(sys.argv[1:])
 
     def work() -> int:
-        print(mirrored(words))
+        tell(mirrored(words), sys.stdout)
         return DONE
 
     return ended(PROGRAM, f"{words.folder}.lock", "mirroring", work)

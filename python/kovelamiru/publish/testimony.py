@@ -4,13 +4,13 @@ from __future__ import annotations
 
 import argparse
 import os
-import sys
 from functools import partial
 
 from ..checkpoints import (
     NAME, SECONDS, Checkpoint, Witness, at, checkpoint_of, unwitnessed, witnesses_in)
 from ..faults import NoAnswer, Stop, Unreadable
 from ..fetch import side_by_side
+from ..words import tell
 from .files import read
 from .sums import NAME as SUMS, sums_of
 
@@ -35,8 +35,7 @@ def testimonies(words: argparse.Namespace, due: Checkpoint) -> dict[str, bytes]:
     for one in witnesses:
         said = why.get(one.name, f"no answer in {SECONDS} seconds")
         if said:
-            print(f"desk-publish: {one.name} hasn't signed calls {due.calls} yet: {said}",
-                  file=sys.stderr)
+            tell(f"desk-publish: {one.name} hasn't signed calls {due.calls} yet: {said}")
     return {**found}
 
 

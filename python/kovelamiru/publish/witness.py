@@ -3,7 +3,6 @@ with what it published. It stops a publication only if our own key signed it."""
 from __future__ import annotations
 
 import argparse
-import sys
 import time
 from functools import partial
 from typing import Optional
@@ -12,6 +11,7 @@ from ..checkpoints import NAME, PUBLISHED, Checkpoint, signed_at, sum_of
 from ..faults import NoAnswer, Stop, Unreadable
 from ..fetch import side_by_side
 from ..programs import public_line, refused
+from ..words import tell
 from .desk import Found, lines
 from .page import Before
 
@@ -20,7 +20,7 @@ WITNESS_SECONDS, BEHIND_SECONDS = 30, 3600
 
 
 def doubted(where: str, text: str) -> None:
-    print(f"desk-publish: the witness {where} stops nothing: {text}", file=sys.stderr)
+    tell(f"desk-publish: the witness {where} stops nothing: {text}")
 
 
 def believed(words: argparse.Namespace) -> dict[str, Checkpoint]:
