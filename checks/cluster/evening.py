@@ -50,11 +50,13 @@ class Evening(Lab):
     # ---- the page
 
     def page(self, title: str) -> None:
+        """Types a part of the page; what it says of waiting and of a desk that is there is done."""
+        before = {"kovelamiru-desk/. /srv": self.founds, "corosync-quorumtool": self.votes,
+                  "crm -w resource stop desk": self.settles}
         for command in commands(section(PAGE, title)):
-            if "kovelamiru-desk/. /srv" in command.text:
-                self.founds()
-            if "crm -w resource stop desk" in command.text:
-                self.settles()
+            for text, does in before.items():
+                if text in command.text:
+                    does()
             for name in ("a", "b") if command.who == "both" else (command.who,):
                 # (without a network apt has what it needs)
                 self.does(name, command.text.replace("apt install", "apt-get install -y"))

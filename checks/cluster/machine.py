@@ -1,12 +1,13 @@
 #!/usr/bin/env python3
-"""In a machine of the lab: gives it its name and addresses, and types what comes by its port. Each
-line is a number and a command, in JSON; the answer has the number, the status and what was printed.
-"""
+"""In a machine of the lab: with the word `named` gives it its name and addresses, else types what
+comes by its port. Each line is a number and a command, in JSON; the answer has the number, the
+status and what was printed."""
 from __future__ import annotations
 
 import json
 import re
 import subprocess
+import sys
 import time
 from pathlib import Path
 
@@ -26,8 +27,7 @@ def named() -> None:
         subprocess.run(["sh", "-c", command], check=False)
 
 
-def main() -> None:
-    named()
+def types() -> None:
     while True:
         time.sleep(0.5)
         with open(PORT, "r+b", buffering=0) as port:
@@ -39,4 +39,7 @@ def main() -> None:
                 port.write(json.dumps(answer).encode() + b"\n")
 
 
-main()
+if sys.argv[1:] == ["named"]:
+    named()
+else:
+    types()

@@ -76,6 +76,10 @@ class Lab:
         self.until("a desk answers", there)
         return found[0]
 
+    def votes(self) -> None:
+        """There is a quorum, and both machines are in the cluster."""
+        self.until("a quorum", lambda: "Online: [ a b ]" in self.types("a", "crm_mon -1")[1])
+
     def settles(self) -> None:
         """Both disks have all, and both machines are in the cluster."""
         def there() -> bool:

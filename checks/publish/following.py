@@ -13,6 +13,8 @@ from checks.support.program import Program
 from checks.support.says import fail, note
 from checks.support.tools import ROOT
 
+TOOL = ROOT / "packaging/desk-standby"
+
 
 class Shown:
     """What a desk shows, by its paths but for those of the minutes."""
@@ -32,15 +34,15 @@ class Standby:
     """A copy in the folder of a place."""
 
     def __init__(self, place: Place) -> None:
-        self.desk, self.room = place.desk, place.room
+        self.desk, self.room, self.tool = place.desk, place.room, TOOL
         self.db, self.minutes = self.room / "copy.db", self.room / "copy.txt"
         self.words = ["--token-file", private_token(place, "olga"), "--owner", OWNER]
 
     def follows(self, shown: Shown, status: int, says: str, *words: str | Path) -> str:
         """A run ends so, and says this; all that it said."""
         with served(shown) as (url, _):
-            asked = [sys.executable, "-IB", str(ROOT / "packaging/desk-standby"), str(self.db),
-                     str(self.minutes), *self.words, "--url", url, "--program", self.desk.path]
+            asked = [sys.executable, "-IB", str(self.tool), str(self.db), str(self.minutes),
+                     *self.words, "--url", url, "--program", self.desk.path]
             done = subprocess.run(
                 [*asked, *map(str, words)], stdout=subprocess.PIPE, stderr=subprocess.STDOUT,
                 text=True, timeout=300, check=False, cwd=self.room,
