@@ -135,10 +135,13 @@ class Evening(Lab):
     def now(self) -> float:
         return float(self.does("q", "cut -d ' ' -f 1 /proc/uptime", quiet=True))
 
-    def waits(self, after: float, more: int = 2) -> None:
-        """Until so many calls are acknowledged after this time of q's."""
-        self.until("calls are acknowledged", lambda: sum(
-            float(at) > after for at, _, _ in self.acknowledged()) >= more)
+    def waits(self, after: float) -> None:
+        """Until two calls are acknowledged after this time of q's; meanwhile no two desks serve."""
+        def there() -> bool:
+            self.serving()
+            return sum(float(at) > after for at, _, _ in self.acknowledged()) > 1
+
+        self.until("calls are acknowledged", there)
 
     def struck(self, name: str) -> tuple[str, float, int]:
         """What a strike cost: who serves then, and the longest time between two acknowledged calls.
@@ -149,8 +152,8 @@ class Evening(Lab):
         self.types("q", "systemctl start client || systemd-run --unit=client client")
         self.waits(began := self.now())
         strike.does(self, first, other)
-        second = self.serves()
         self.waits(self.now())
+        second = self.serves()
         strike.mends(self, first, other)
         self.settles()
         self.waits(self.now())
@@ -161,7 +164,18 @@ class Evening(Lab):
         return second, max(b - a for a, b in zip(times, times[1:])), len(times)
 
 
-def typed(*texts: str, at: int = 0) -> Callable[[Evening, str, str], None]:
+Act = Callable[[Evening, str, str], None]
+
+
+def in_turn(*acts: Act) -> Act:
+    def does(lab: Evening, first: str, other: str) -> None:
+        for act in acts:
+            act(lab, first, other)
+
+    return does
+
+
+def typed(*texts: str, at: int = 0) -> Act:
     """Types this on the machine that serves; with 1 on the other one."""
     def does(lab: Evening, *names: str) -> None:
         for text in texts:
@@ -170,7 +184,7 @@ def typed(*texts: str, at: int = 0) -> Callable[[Evening, str, str], None]:
     return does
 
 
-def powers(*lines: str) -> Callable[[Evening, str, str], None]:
+def powers(*lines: str) -> Act:
     """Words of `lab`; `first` is the machine that served, `other` the other one."""
     def does(lab: Evening, first: str, other: str) -> None:
         for line in lines:
@@ -200,8 +214,8 @@ def upgrades(lab: Evening, first: str, _other: str) -> None:
 
 
 class Strike(NamedTuple):
-    does: Callable[[Evening, str, str], None]
-    mends: Callable[[Evening, str, str], None] = typed()
+    does: Act
+    mends: Act = typed()
 
 
 STRIKES = {
@@ -216,10 +230,8 @@ STRIKES = {
     "the desk hangs": Strike(typed("systemctl kill -s STOP kovelamiru-desk")),
     "corosync is killed": Strike(typed("killall -9 corosync")),
     "clocks apart": Strike(
-        lambda lab, first, other: (typed("date -s '+20 hours'", at=1)(lab, first, other),
-                                   powers("off first")(lab, first, other))[0],
-        lambda lab, first, other: (typed("date -s '-20 hours'", at=1)(lab, first, other),
-                                   powers("on first")(lab, first, other))[0]),
+        in_turn(typed("date -s '+20 hours'", at=1), powers("off first")),
+        in_turn(typed("date -s '-20 hours'", at=1), powers("on first"))),
     "an upgrade": Strike(upgrades),
 }
 
