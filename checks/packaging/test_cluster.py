@@ -114,7 +114,8 @@ def does(cib: Path, *words: str | Path) -> list[str]:
     said = ran("crm_simulate", "-x", cib, "--simulate", *words).decode()
     text = re.sub(r"(?m)^.*\* Fencing (\w+) .*$", r"* Resource action: cluster fence on \1", said)
     found = re.findall(r"Resource action: (\w+)(?::\d)? +(\w+) on (\w+)$", text, re.M)
-    return [" ".join(one) for one in found if one[1] not in ("monitor", "notify")]
+    return [" ".join(one) for one in found
+            if one[0] != "router" and one[1] not in ("monitor", "notify")]
 
 
 @pytest.mark.if_there("crm", "crm_simulate", "cibadmin")
@@ -125,6 +126,21 @@ def test_the_other_machine_serves_once_a_failed_one_is_fenced(running: Path) -> 
     assert failed == ["cluster fence a", "disk promote b", *starts]
     alone = does(running, "--quorum=0", "--node-fail=a")
     assert alone == ["disk stop b"]
+
+
+@pytest.mark.if_there("crm", "crm_simulate", "cibadmin")
+def test_it_moves_to_where_people_are_and_stays_where_there_is_nobody(running: Path) -> None:
+    for on_a, on_b, end in ((5000, 5000, ""), (0, 0, ""), (0, 5000, "address start b")):
+        tree = ET.parse(running)
+        for name, reaches in (("a", on_a), ("b", on_b)):
+            attributes = tree.find(f".//instance_attributes[@id='of-{name}']")
+            assert attributes is not None
+            attributes[0].set("value", "10000")
+            ET.SubElement(attributes, "nvpair", id=f"{name}-pingd", name="pingd",
+                          value=str(reaches))
+        tree.write(running.with_name("reaches.xml"))
+        did = does(running.with_name("reaches.xml"), "--quorum=1")
+        assert "".join(did[-1:]) == end, did
 
 
 @pytest.mark.if_there("systemd-analyze")

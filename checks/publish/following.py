@@ -11,6 +11,8 @@ from checks.support.images import OWNER
 from checks.support.program import Program
 from checks.support.tools import ROOT, ends
 
+TOOL = ROOT / "packaging/desk-standby"
+
 
 class Shown:
     """What a desk shows, by its paths but for those of the minutes."""
@@ -30,7 +32,7 @@ class Standby:
     """A copy in the folder of a place."""
 
     def __init__(self, place: Place) -> None:
-        self.desk, self.room = place.desk, place.room
+        self.desk, self.room, self.tool = place.desk, place.room, TOOL
         self.db, self.minutes = self.room / "copy.db", self.room / "copy.txt"
         self.words = ["--token-file", private_token(place, "olga"), "--owner", OWNER]
 
@@ -38,7 +40,7 @@ class Standby:
         """A run ends so, and says this; all that it said."""
         with served(shown) as (url, _):
             asked: list[str | Path] = [
-                sys.executable, "-IB", ROOT / "packaging/desk-standby", self.db, self.minutes,
+                sys.executable, "-IB", self.tool, self.db, self.minutes,
                 *self.words, "--url", url, "--program", self.desk.path,
             ]
             return ends(status, says, *asked, *words, cwd=self.room)

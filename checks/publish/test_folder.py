@@ -11,6 +11,8 @@ from checks.publish.place import SUMMED, Place, key_of, number
 from checks.support.images import sha256
 from checks.support.says import expect
 from checks.support.steps import named
+from checks.support.tools import ROOT
+from kovelamiru.publish.folder import folders, swept
 
 SIGNS = ("--sign", "./sign", "--key", "publisher")
 
@@ -82,6 +84,15 @@ def test_so_many_folders_are_kept(signed: Place) -> None:
     signed.publish(0, ": published in", "--keep", "2")
     assert kept() == 2
     signed.shows(15)
+
+
+def test_of_one_date_the_folder_with_fewer_calls_is_older(room: Path) -> None:
+    names = [f"published.20261201T1200{end}" for end in ("00Z-calls-100", "01Z-calls-9",
+                                                         "01Z-calls-99", "01Z-calls-100")]
+    for name in names:
+        (room / name).mkdir()
+    swept(str(room / "published"), 2)
+    expect(folders(str(room / "published")), names[2:], "what is kept")
 
 
 def test_an_old_date_is_renewed(signed: Place) -> None:

@@ -4,8 +4,9 @@ from __future__ import annotations
 
 import pytest
 
-from checks.publish.following import Shown, Standby
+from checks.publish.following import TOOL, Shown, Standby
 from checks.publish.place import Place, made_certificate, number
+from checks.support.dripping import dripping
 from checks.support.images import OWNER
 
 pytestmark = pytest.mark.needs("openssl", "sign-efi-sig-list", "ssh-keygen")
@@ -116,3 +117,14 @@ def test_a_checkpoint_that_the_key_did_not_sign_stops_nothing(
     assert "calls 11\n" in standby.follows(shown, 0, says, *words)
     path.unlink()
     standby.follows(shown, 0, f"nothing is held against {path}: ", *words)
+
+
+def test_a_checkpoint_whose_answer_never_ends_stops_nothing(
+    signed: Place, standby: Standby, shown: Shown
+) -> None:
+    standby.tool = signed.changed(
+        "quick", ("checkpoints.py", "^SECONDS, (.*) = 30, ", r"SECONDS, \1 = 2, "), tool=TOOL)
+    with dripping("100 Continue") as url:
+        words = "--checkpoint", f"{url}/checkpoint.txt", *checked(signed)[2:]
+        says = f"nothing is held against {words[1]}: the answer was lost"
+        standby.follows(shown, 0, says, *words)

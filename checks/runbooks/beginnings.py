@@ -249,7 +249,7 @@ def repeated(machine: Machine) -> None:
 
 def nobodys(machine: Machine) -> None:
     """The token for publishing is root's, and no person's; it reads the minutes. What is published
-    is the desk's."""
+    is the desk's, and the site shows it, but for the minutes."""
     path = machine.room / "etc/kovelamiru-publish.token"
     token, others = path.read_text().strip(), path.stat().st_mode & 0o077
     if token in machine.tokens.values() or others:
@@ -262,6 +262,13 @@ def nobodys(machine: Machine) -> None:
         fail("--first stays")
     audit = (machine.room / "publish/published/audit.txt").read_text().splitlines()
     expect(audit[:1], ["calls 19"], "what is published")
+    link = machine.room / "publish/published"
+    for path in (link / "dbx.esl", link.resolve() / "SHA256SUMS", link / "minutes.txt"):
+        status, data = machine.asks("ann", f"/{path.parent.name}/{path.name}", port=machine.proxy)
+        if path.name == "minutes.txt" and machine.users:
+            assert status == 403
+        else:
+            expect((status, data), (200, path.read_bytes()), str(path))
 
 
 # The verdicts on the revoked image of full-desk, each that differs from the one before.

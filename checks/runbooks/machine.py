@@ -235,7 +235,8 @@ class Machine:
     def start_proxy(self) -> None:
         folder = self.room / "nginx"
         part = (self.repository / "packaging/nginx-desk.conf").read_text()
-        shown = {path: here for path, here in self.paths.items() if path.endswith("-witness")}
+        shown = {path: here for path, here in self.paths.items()
+                 if path.endswith(("-witness", "-publish"))}
         (folder / "nginx-desk.conf").write_text(replaced(part, shown))
         (folder / "site.conf").write_text(self.site("nginx.conf"))
         closed = self.room / "examples" / "nginx-maintenance.conf"

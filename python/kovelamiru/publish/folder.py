@@ -69,10 +69,12 @@ def times_of(link: str) -> dict[str, Optional[str]]:
 
 
 def folders(link: str) -> list[str]:
-    """The names of the publications beside the link, the oldest first."""
+    """The names of the publications beside the link, the oldest first: of one date, where a clock
+    was ahead, that with fewer calls."""
     folder, name = os.path.split(link)
-    return sorted(one for one in os.listdir(folder)
-                  if re.fullmatch(re.escape(name) + r"\.\d{8}T\d{6}Z-calls-\d+", one))
+    found = (re.fullmatch(re.escape(name) + r"\.(\d{8}T\d{6}Z)-calls-(\d+)", one)
+             for one in os.listdir(folder))
+    return [one[0] for one in sorted(filter(None, found), key=lambda one: (one[1], int(one[2])))]
 
 
 def current(link: str) -> str:
