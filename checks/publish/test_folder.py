@@ -13,7 +13,6 @@ from checks.support.says import expect
 from checks.support.steps import named
 from checks.support.tools import ROOT
 from kovelamiru.publish.folder import folders, swept
-
 SIGNS = ("--sign", "./sign", "--key", "publisher")
 
 
