@@ -1,8 +1,8 @@
 """A day of a desk on the command line: each output, error line and status.
 
 A desk is made, seven people are added, an image is judged, and everything is exported. Then each
-fault of each subcommand in order, two terminals at one file, and a writer that is full. The
-officers' calls of the day are in test_officers.py."""
+fault of each subcommand in order, two terminals at one file, and a writer that is full. What
+officers do is a day of checks/support/days.py."""
 from __future__ import annotations
 
 import contextlib
