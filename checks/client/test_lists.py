@@ -16,7 +16,7 @@ from kovelamiru.search import proposal_matches, request_matches
 SEARCH: dict[str, Any] = wire("cases/search")
 STATES = ("open", "approved", "signed", "rejected")
 TITLES = (
-    "linux 6.12.118-1 cloud-amd64", "linux 6.12.118-1 cloud-arm64", "Shim 16.1-1 amd64",
+    "linux 6.12.118-1 / cloud-amd64", "linux 6.12.118-1 / cloud-arm64", "Shim 16.1-1 amd64",
     "a loader whose title is as long as a line of a narrow terminal, for amd64",
 )
 # As many as two parts of the desk have.
@@ -91,4 +91,4 @@ def test_a_list_longer_than_the_terminal_goes_through_the_pager(
     assert due in rita.asked("requests --limit 30", size=(24, 120))[1]
     # What fits needs none, and a file or a pipe gets none.
     assert "  cloud-arm64" in rita.asked("requests --limit 5", size=(24, 120))[1]
-    assert "linux 6.12.118-1 cloud-arm64" in rita.does("requests --limit 30")
+    assert "linux 6.12.118-1 / cloud-arm64" in rita.does("requests --limit 30")

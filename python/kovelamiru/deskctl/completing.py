@@ -1,5 +1,5 @@
-"""What completes a line of deskctl. `deskctl complete WORD..` is for the completions of shells: of
-what may stand in the last word's place it prints each, and behind a tab what that does; or FILES."""
+"""What completes a line of deskctl. `deskctl complete WORD..`, which is for shells, prints what may
+stand in the last word's place, each with what it does behind a tab; or FILES."""
 from __future__ import annotations
 
 from typing import Any, Iterator, Sequence
