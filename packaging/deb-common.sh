@@ -12,12 +12,12 @@ wants() {
     for tool in "$@"; do command -v "$tool" > /dev/null || fail "$tool is needed"; done
 }
 # versioned WHAT VERSION COMMIT: the version must be the newest in CHANGELOG.md. The package's has the
-# commit's date and hash, and is lower than the one without.
+# commit's time and hash, and is lower than the one without.
 versioned() {
     newest=$(sed -n '/^## /{s/^## \([^ ,]*\).*/\1/p;q}' "$root/CHANGELOG.md")
     [ "$2" = "$newest" ] || fail "$1 has version $2, and CHANGELOG.md $newest"
     committed=$(git -C "$root" log -1 --format=%ct)
-    version=$2~git$(date -d "@$committed" +%Y%m%d).$(echo "$3" | cut -c1-8)
+    version=$2~git$(date -d "@$committed" +%Y%m%d%H%M%S).$(echo "$3" | cut -c1-8)
     SOURCE_DATE_EPOCH=${SOURCE_DATE_EPOCH:-$committed}
     export SOURCE_DATE_EPOCH
     maintainer=$(git -C "$root" log -1 --format='%an <%ae>')

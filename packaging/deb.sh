@@ -3,7 +3,7 @@
 # the named one, and prints its path: deb.sh PROGRAM [OUT]. The program goes in unchanged. Beside it
 # stands the record that it was proved (packaging/record), of this commit and no edited tree; else,
 # and of a trial program, there is no package. VERSION is the program's own, which must be the
-# newest in CHANGELOG.md, with the commit's date and hash. The same program, tree and
+# newest in CHANGELOG.md, with the commit's time and hash. The same program, tree and
 # SOURCE_DATE_EPOCH (by default the commit's date) give the same bytes. It needs dpkg-dev, git, gzip
 # and python3.
 set -eu

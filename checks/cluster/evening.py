@@ -57,14 +57,13 @@ class Evening(Lab):
             for text, does in before.items():
                 if text in command.text:
                     does()
-            for name in ("a", "b") if command.who == "both" else (command.who,):
-                # (without a network apt has what it needs)
-                self.does(name, command.text.replace("apt install", "apt-get install -y"))
+            # (without a network apt has what it needs)
+            text = command.text.replace("apt install", "apt-get install -y")
+            self.both(text, *(("a", "b") if command.who == "both" else (command.who,)))
 
     def sets_up(self) -> None:
-        for name in ("a", "b", "q"):
-            for text in CHANGES:
-                self.does(name, text)
+        for text in CHANGES:
+            self.both(text, "a", "b", "q")
         for text in SITES:
             self.does("a", text)
         self.page("Setting it up")

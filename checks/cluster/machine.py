@@ -28,15 +28,17 @@ def named() -> None:
 
 
 def types() -> None:
-    while True:
-        time.sleep(0.5)
-        with open(PORT, "r+b", buffering=0) as port:
-            while line := port.readline():
-                number, text = json.loads(line)
-                done = subprocess.run(["bash", "-c", text], stdout=subprocess.PIPE,
-                                      stderr=subprocess.STDOUT, cwd="/root/cluster", check=False)
-                answer = [number, done.returncode, done.stdout.decode(errors="replace")]
-                port.write(json.dumps(answer).encode() + b"\n")
+    """(The port stays open: what comes while it is closed would be lost.)"""
+    with open(PORT, "r+b", buffering=0) as port:
+        while True:
+            if not (line := port.readline()):
+                time.sleep(0.1)
+                continue
+            number, text = json.loads(line)
+            done = subprocess.run(["bash", "-c", text], stdout=subprocess.PIPE,
+                                  stderr=subprocess.STDOUT, cwd="/root/cluster", check=False)
+            answer = [number, done.returncode, done.stdout.decode(errors="replace")]
+            port.write(json.dumps(answer).encode() + b"\n")
 
 
 if sys.argv[1:] == ["named"]:

@@ -6,6 +6,7 @@ import socket
 import subprocess
 import sys
 import time
+from concurrent.futures import ThreadPoolExecutor
 from pathlib import Path
 from typing import Callable
 
@@ -22,14 +23,14 @@ class Lab:
 
     def types(self, name: str, text: str, seconds: float = 900) -> tuple[int, str]:
         """The status and what was printed. (An answer to what was typed before isn't it.)"""
-        self.typed += 1
+        own = self.typed = self.typed + 1
         with socket.socket(socket.AF_UNIX) as peer:
             peer.settimeout(seconds)
             peer.connect(str(self.room / f"{name}.shell"))
-            peer.sendall(json.dumps([self.typed, text]).encode() + b"\n")
+            peer.sendall(json.dumps([own, text]).encode() + b"\n")
             for line in peer.makefile():
                 number, status, said = json.loads(line)
-                if number == self.typed:
+                if number == own:
                     return int(status), str(said)
         raise OSError(f"{name} is off")
 
@@ -40,6 +41,11 @@ class Lab:
         if status:
             sys.exit(f"{name}# {text}: status {status}")
         return said
+
+    def both(self, text: str, *names: str) -> None:
+        """Types this on several machines at once."""
+        with ThreadPoolExecutor() as pool:
+            list(pool.map(lambda name: self.does(name, text), names))
 
     # ---- the cluster
 

@@ -7,6 +7,7 @@ import os
 import re
 import shutil
 import subprocess
+import time
 from pathlib import Path
 
 import pytest
@@ -84,8 +85,8 @@ def test_its_name_has_the_version_and_the_commit_below_the_release(
     tree: Copy, package: Package
 ) -> None:
     own, commit = tree.version(), tree.git("rev-parse", "HEAD")
-    date = tree.git("log", "-1", "--format=%cd", "--date=format:%Y%m%d")
-    version = f"{own}~git{date}.{commit[:8]}"
+    made = time.gmtime(int(tree.git("log", "-1", "--format=%ct")))
+    version = f"{own}~git{time.strftime('%Y%m%d%H%M%S', made)}.{commit[:8]}"
     assert package.deb.name == f"{NAME}_{version}_amd64.deb"
     quiet("dpkg", "--compare-versions", version, "lt", own)
 
