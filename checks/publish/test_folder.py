@@ -5,14 +5,14 @@ import fcntl
 import os
 import re
 import stat
-
+from pathlib import Path
 
 from checks.publish.place import SUMMED, Place, key_of, number
 from checks.support.images import sha256
 from checks.support.says import expect
 from checks.support.steps import named
-from checks.support.tools import ROOT
 from kovelamiru.publish.folder import folders, swept
+
 SIGNS = ("--sign", "./sign", "--key", "publisher")
 
 
