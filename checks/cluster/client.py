@@ -16,7 +16,7 @@ DONE = Path("/root/acknowledged")
 
 def sent(context: ssl.SSLContext, who: str, key: str) -> bytes:
     """The desk's answer; nothing where none came, or another one's."""
-    desk = http.client.HTTPSConnection("desk.example.org", timeout=10, context=context)
+    desk = http.client.HTTPSConnection("desk.example.org", timeout=60, context=context)
     token = Path(f"/root/{who}.token").read_text(encoding="ascii").strip()
     body = json.dumps({"digest": hashlib.sha256(key.encode()).hexdigest()})
     try:

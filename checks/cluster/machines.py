@@ -50,9 +50,9 @@ class Lab:
     # ---- the cluster
 
     def answers(self, name: str) -> bool:
-        asks = "curl -s -o /dev/null --max-time 5 http://127.0.0.1:880/level"
+        asks = "curl -s -o /dev/null --max-time 20 http://127.0.0.1:880/level"
         try:
-            return self.types(name, asks, 20)[0] == 0
+            return self.types(name, asks, 60)[0] == 0
         except OSError:
             return False
 
