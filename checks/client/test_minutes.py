@@ -58,16 +58,18 @@ def test_a_disk_that_gets_full_leaves_whole_lines(olga: Person, copy: Path) -> N
     olga.does("minutes --into copy", err=["2,500 calls, 500 of them new"])
 
 
-@pytest.mark.parametrize("history", [
-    LINES[:2000], [*LINES[:2499], LINES[2499].replace(b"listed", b"unlisted")],
-], ids=["shorter", "another last line"])
+@pytest.mark.parametrize("history, at", [
+    (LINES[:2000], 2001), ([*LINES[:2499], LINES[2499].replace(b"listed", b"unlisted")], 2500),
+    ([*LINES[:9], LINES[9].replace(b"listed", b"unlisted"), *LINES[10:]], 10),
+], ids=["shorter", "another last line", "another line long before"])
 def test_another_history_is_refused(
-    olga: Person, copy: Path, between: Between, history: list[bytes]
+    olga: Person, copy: Path, between: Between, history: list[bytes], at: int
 ) -> None:
     copy.write_bytes(WHOLE)
     between.history = history
-    olga.ends(1, "minutes --into copy", "aren't those of", "line 2500",
+    olga.ends(1, "minutes --into copy", "aren't those of", f"line {at}",
               "restored from an older copy")
+    expect(copy.read_bytes(), WHOLE, "the copy")
     copy.write_bytes(b"hello\n")
     olga.ends(2, "minutes --into copy", "line 1 isn't the minutes' line 1")
 

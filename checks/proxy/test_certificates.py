@@ -275,7 +275,7 @@ def test_desk_standby_tells_a_fault_from_a_refusal(machine: Site) -> None:
     expect(copied.read_bytes(), other, "the minutes of another desk")
     machine.lists("machines")
     machine.nginx.reload()
-    says = "^desk-standby: GET /minutes/3: 403, Forbidden$"
+    says = "^desk-standby: GET /minutes/1: 403, Forbidden$"
     read_by(machine, 3, says, *FOLLOWS, "--program", "true")
     os.chmod(machine.room / "robot.key", 0o644)
     says = "^desk-standby: others can read the private key robot.key: chmod 600$"

@@ -1,11 +1,16 @@
 """Lines of minutes: numbered from 1, fetched from a desk in parts, appended to a copy."""
 from __future__ import annotations
 
-from dataclasses import dataclass
+from collections import deque
+from dataclasses import dataclass, field
 from typing import BinaryIO, Iterator
 
 from .desk import Desk
 from .http import TEXT, not_a_desk
+
+
+# The most lines that a desk shows at once.
+MOST_LINES = 1000
 
 
 def is_numbered(data: bytes, number: int) -> bool:
@@ -40,12 +45,14 @@ def minute_lines(desk: Desk) -> Iterator[str]:
 
 @dataclass
 class Copy:
-    """A copy of minutes: how many whole lines it has, where they end, the last of them, and what a
-    run that was stopped left behind them; `odd` is the number of a line that doesn't begin so."""
+    """A copy of minutes: how many whole lines it has, where they end, the last of them, the last
+    that a desk shows at once, and what a run that was stopped left behind them; `odd` is the number
+    of a line that doesn't begin so."""
 
     count: int = 0
     end: int = 0
     last: bytes = b""
+    lasts: deque[bytes] = field(default_factory=lambda: deque(maxlen=MOST_LINES))
     rest: bytes = b""
     odd: int = 0
 
@@ -61,4 +68,20 @@ def copy_of(file: BinaryIO) -> Copy:
             break
         else:
             found.count, found.end, found.last = found.count + 1, found.end + len(line), line
+            found.lasts.append(line)
     return found
+
+
+def first_other(desk: Desk, file: BinaryIO, count: int) -> int:
+    """The number of the first of so many lines of a copy that isn't the desk's; 0 without one."""
+    file.seek(0)
+    number = 1
+    while number <= count:
+        lines = minutes_from(desk, number).splitlines(keepends=True)[:count - number + 1]
+        for line in lines:
+            if file.readline() != line:
+                return number
+            number += 1
+        if not lines:
+            return number
+    return 0

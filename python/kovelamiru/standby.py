@@ -12,6 +12,7 @@ import os
 import re
 import subprocess
 import sys
+from collections import deque
 from typing import Any, BinaryIO, Iterator, Optional
 
 from .checkpoints import (
@@ -43,7 +44,7 @@ allow, such as a new officer's, are followed.
 
 The run ends with `desk-standby: refused RULE` where
 
-  minutes     the desk doesn't have the last line of MINUTES, or has fewer lines than DB
+  minutes     one of the last 1,000 lines of MINUTES isn't the desk's, or it has fewer than DB
   47 Minute   a new line isn't what the rules give, or DB has another one; those before it are kept
   dbx         the desk shows another one than its minutes give, as one that was restored from an
               older copy may; so with db and level
@@ -82,14 +83,23 @@ class Copied:
         begun = has.count or not has.rest or has.rest[:2] == b"1\t"[:len(has.rest)]
         if has.odd or not begun:
             wrong(f"{path} isn't minutes: its line {has.odd or 1} doesn't begin with its number")
-        self.count, self.end, self.last = has.count, has.end, has.last
+        self.count, self.end, self.lasts = has.count, has.end, has.lasts
 
     def begins(self) -> None:
-        """The desk has the last line. A stopped run or a power cut may have left more behind it."""
-        if self.count and not self.desk.lines_from(self.count).startswith(self.last):
-            raise refused("minutes", f"line {self.count} of {self.words.minutes} isn't the desk's:"
-                          " another desk, or an older copy of it")
+        """The desk has the last lines, as many as it shows at once: after a failover callers repeat
+        what was lost in another order, and then one line alone may be the same. A stopped run or a
+        power cut may have left more behind them."""
+        self.held(self.lasts, self.count, f" of {self.words.minutes}")
         self.file.truncate(self.end)
+
+    def held(self, lasts: deque[bytes], count: int, where: str) -> None:
+        """The desk shows these lines, the last of so many."""
+        first = count - len(lasts) + 1
+        shown = self.desk.lines_from(first).splitlines(keepends=True) if lasts else []
+        for number, line in enumerate(lasts, first):
+            if shown[number - first:number - first + 1] != [line]:
+                raise refused("minutes", f"line {number}{where} isn't the desk's: another desk, or"
+                              " an older copy of it")
 
     def lines(self, new: bytes = b"") -> Iterator[bytes]:
         """Those of the file, and new ones."""
@@ -160,11 +170,17 @@ class Copied:
         while not whole:
             new, whole = self.fetched()
             count = self.count + new.count(b"\n")
+            lasts = self.lasts.copy()
+            lasts.extend(new.splitlines(keepends=True))
+            if new:
+                # (one desk answered all of this: none took its name meanwhile)
+                self.held(lasts, count, ", fetched in this run,")
             if check and (whole or check.calls <= count):
                 if sum_of(self.lines(new), check.calls) != check.minutes:
                     raise refused("checkpoint", f"{count} calls don't begin with the {check.calls}"
                                   " that were published: an older copy of the desk, or another")
             told = self.taken(new)
+            self.lasts = lasts
         return told
 
     def compared(self, told: str) -> bool:

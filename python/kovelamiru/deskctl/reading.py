@@ -13,7 +13,7 @@ from ..answers import me_of
 from ..faults import REFUSED, Stop, reason, wrong
 from ..files import fresh, write_all
 from ..http import BYTES, TEXT, not_a_desk
-from ..minutes import copy_of, minute_parts, minutes_from
+from ..minutes import copy_of, first_other, minute_parts, minutes_from
 from ..words import counted, printable
 from .run import Run
 
@@ -70,8 +70,7 @@ def append(file: int, data: bytes) -> None:
 
 
 def minutes_into(run: Run, path: str) -> None:
-    """Appends what a copy lacks. The desk's line of the same number has to be the copy's last
-    one."""
+    """Appends what a copy lacks. Each of its lines has to be the desk's."""
     try:
         opened = os.open(path, os.O_WRONLY | os.O_CREAT | os.O_APPEND | os.O_CLOEXEC, 0o600)
     except OSError as error:
@@ -83,10 +82,11 @@ def minutes_into(run: Run, path: str) -> None:
             wrong(f"{path}: line {has.odd} isn't the minutes' line {has.odd}",
                   "Name a copy of a desk's minutes, or a new file.")
         added, at, first = 0, has.count + 1, max(has.count, 1)
-        data = minutes_from(run.desk, first)
-        if not data.startswith(has.last + has.rest):
-            raise Stop(REFUSED,
-                       f"the desk's minutes aren't those of {path}: they differ at line {first}",
+        other = first_other(run.desk, copy, has.count)
+        data = b"" if other else minutes_from(run.desk, first)
+        if other or not data.startswith(has.last + has.rest):
+            raise Stop(REFUSED, f"the desk's minutes aren't those of {path}: they differ at line"
+                       f" {other or first}",
                        ("It is another desk, or was restored from an older copy. Publish nothing"
                         " from it before that is cleared up."))
         data = data[len(has.last):]
