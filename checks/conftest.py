@@ -17,6 +17,7 @@ import signal
 import subprocess
 import sys
 import tempfile
+import threading
 from pathlib import Path
 from types import FrameType
 from typing import TYPE_CHECKING, Any, Callable, Generator, Iterator, Protocol
@@ -59,7 +60,9 @@ def pytest_configure(config: pytest.Config) -> None:
         "long(seconds): begins before shorter ones",
     ):
         config.addinivalue_line("markers", line)
-    signal.signal(signal.SIGTERM, stop)
+    # (a busy machine's xdist configures a worker in a thread that can't set one)
+    if threading.current_thread() is threading.main_thread():
+        signal.signal(signal.SIGTERM, stop)
     # nginx is in /usr/sbin.
     os.environ["PATH"] += ":/usr/sbin:/sbin"
     os.environ["PYTHONDONTWRITEBYTECODE"] = "1"
