@@ -5,6 +5,7 @@ import fcntl
 import os
 import re
 import stat
+from pathlib import Path
 
 import pytest
 
