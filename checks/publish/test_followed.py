@@ -67,7 +67,7 @@ def test_an_older_copy_with_the_same_last_line_is_refused(
     other.raises("grub", 3, 2026112700)
     restored = Shown(other.desk, other.db)
     assert restored.lines[-1] == Shown(signed.desk, signed.db).lines[-1]
-    standby.follows(restored, 1, "refused db: the desk shows ")
+    standby.follows(restored, 1, "refused minutes: line ")
     standby.has(ALL, Shown(signed.desk, signed.db))
     for path in (*standby.room.glob("copy.db*"), standby.minutes):
         path.rename(standby.room / f"old-{path.name}")

@@ -52,14 +52,15 @@ export function whyField(label) {
 
 /**
  * @param {number} number
- * @param {string | undefined} tag the proposal's
+ * @param {string | undefined} tag the proposal's, unless it couldn't be asked for
  * @param {string} text
  * @param {HTMLElement} place where its answers are shown
  * @param {import('./act.js').Control[]} off
  */
 function explain(number, tag, text, place, off) {
     const path = `/proposals/${number}/explain`;
-    const command = jsonCommand(`Explain proposal ${number}`, path, { text }, matching(tag));
+    const about = tag === undefined ? {} : matching(tag);
+    const command = jsonCommand(`Explain proposal ${number}`, path, { text }, about);
     return act(command, place, { off });
 }
 
