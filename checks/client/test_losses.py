@@ -293,5 +293,5 @@ def test_wait_ends_at_its_time(office: Office, between: Between) -> None:
     assert found.status == 3 and "request 1 is still open after 3 s" in found.err, found
     with socket.create_server(("127.0.0.1", 0)) as silent:
         ann.at(f"http://127.0.0.1:{silent.getsockname()[1]}")
-        ann.ends(3, "wait 1 --timeout 1", "timed out")
+        ann.ends(3, "wait 1 --timeout 1", "the answer was lost: ")
     assert time.monotonic() - begun < 60

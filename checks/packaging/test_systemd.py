@@ -121,7 +121,7 @@ def test_a_desk_that_is_in_use_is_tried_until_it_is_free(serving: Machine) -> No
 def test_a_desk_that_hangs_is_ended_and_begins_again(serving: Machine) -> None:
     """By the question of packaging/cluster, which is soon asked, and waits for five seconds."""
     unit = (ROOT / "packaging/cluster/kovelamiru-answers.service").read_text()
-    unit = unit.replace("sleep 30", "sleep 1").replace("--max-time 120", "--max-time 5")
+    unit = unit.replace("sleep 10", "sleep 1").replace("--max-time 90", "--max-time 5")
     serving.writes("/etc/systemd/system/kovelamiru-answers.service", unit)
     before = serving.number()
     serving.run("kill", "-STOP", str(before))
